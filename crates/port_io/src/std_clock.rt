@@ -1,0 +1,33 @@
+ghost use Rattle.std.specs.Prelude.{None};
+
+use crate::Clock;
+use std::time;
+use std::time::{SystemTime, UNIX_EPOCH};
+
+/// The clock of the system. It tells no moments.
+#[derive(Drop)]
+pub struct StdClock<K> {
+    inner: K,
+}
+
+impl<K: time::Clock> StdClock<K> {
+    /// A clock over the runtime's own.
+    pub fn new(inner: K) -> StdClock<K> {
+        StdClock { inner }
+    }
+}
+
+impl<K: time::Clock> Clock for StdClock<K> {
+    ghost moments = { λ c. None };
+
+    /// 0 where the clock can't be read or stands before 1970.
+    fn now(&mut self) -> u64 {
+        let Ok(moment) = SystemTime::now(&self.inner) else {
+            return 0;
+        };
+        match moment.duration_since(UNIX_EPOCH) {
+            Ok(since) => since.as_secs(),
+            Err(_) => 0,
+        }
+    }
+}

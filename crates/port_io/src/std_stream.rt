@@ -1,0 +1,78 @@
+ghost use Rattle.std.specs.Prelude.{◌≡◌, None};
+
+use crate::{Failed, Sink, Source};
+use std::io::{ErrorKind, Read, Write};
+
+/// A source over any reader of std. It tells no content.
+#[derive(Drop)]
+pub struct StdSource<R> {
+    inner: R,
+    faults: u64,
+}
+
+impl<R: Read> StdSource<R> {
+    /// A source that reads from `inner`, and has not failed yet.
+    pub fn new(inner: R) -> StdSource<R> {
+        StdSource { inner, faults: 0 }
+    }
+}
+
+impl<R: Read> Source for StdSource<R> {
+    ghost left = { λ s. None };
+
+    ghost read_faults = { λ s. s.faults };
+
+    ghost beside_reading = { λ s. (None, 0) };
+
+    fn read(&mut self, into: &mut [u8]) -> Result<usize, Failed> {
+        'tries: for _ in 0..u64::MAX {
+            match self.inner.read(into) {
+                Ok(count) => return Ok(count),
+                Err(fault) => {
+                    self.faults = self.faults.saturating_add(1);
+                    if fault.kind() != ErrorKind::Interrupted {
+                        return Err(Failed);
+                    }
+                }
+            }
+        }
+        self.faults = self.faults.saturating_add(1);
+        Err(Failed)
+    }
+}
+
+/// A sink over any writer of std. It tells no content.
+#[derive(Drop)]
+pub struct StdSink<W> {
+    inner: W,
+    faults: u64,
+}
+
+impl<W: Write> StdSink<W> {
+    /// A sink that writes to `inner`, and has not failed yet.
+    pub fn new(inner: W) -> StdSink<W> {
+        StdSink { inner, faults: 0 }
+    }
+}
+
+impl<W: Write> Sink for StdSink<W> {
+    ghost written = { λ s. None };
+
+    ghost write_faults = { λ s. s.faults };
+
+    ghost beside_writing = { λ s. (None, 0) };
+
+    fn write(&mut self, from: &[u8]) -> Result<usize, Failed> {
+        'tries: for _ in 0..u64::MAX {
+            match self.inner.write(from) {
+                Ok(count) if count > 0 || from.is_empty() => return Ok(count),
+                Err(fault) if fault.kind() == ErrorKind::Interrupted => {
+                    self.faults = self.faults.saturating_add(1);
+                }
+                _ => break 'tries,
+            }
+        }
+        self.faults = self.faults.saturating_add(1);
+        Err(Failed)
+    }
+}
