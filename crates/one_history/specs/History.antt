@@ -1,0 +1,33 @@
+-- A history is a list of entries, with places from 0. What it makes of an object, and what the caller of an entry was told.
+use Rattle.std.specs.Prelude.{◌≡◌, ◌==◌, ℕ, ◌≤◌, List, [], ◌∷◌, length, take, filter, slice_get, All, Option, option_map}
+use Rattle.one_history.specs.declared.entry.Entry.{Entry}
+use Rattle.one_history.specs.declared.journal.TheConstants.{JOURNAL_MAX}
+
+abbrev pub entry_of : {M : Type 0} → ℕ → ℕ → M → Entry M
+entry_of caller moment command = record { caller = caller; moment = moment; command = command }
+
+module _ {S M : Type 0} (next : S → ℕ → ℕ → M → S) where
+  -- the state after all entries of a history, oldest first
+  unfoldable pub fold : S → List (Entry M) → S
+  fold start [] = start
+  fold start (e ∷ history) = fold (next start e.caller e.moment e.command) history
+
+  -- what the caller of the entry at a place was told: the reply in the state after the entries in front of it
+  unfoldable pub reply_at : {R : Type 0} → S → (S → ℕ → ℕ → M → R) → List (Entry M) → ℕ → Option R
+  reply_at start reply history place =
+      option_map (λ e. reply (fold start (take place history)) e.caller e.moment e.command) (slice_get history place)
+
+  -- an object with its history: it is the fold, the history is no longer than a journal, and each command is good
+  pub record IsHistoryOf (start : S) (IsGood : M → Type 0) (object : S) (history : List (Entry M)) : Type 0 where
+    pub folded : object ≡ fold start history
+    pub bounded : length history ≤ JOURNAL_MAX
+    pub good : All (λ e. IsGood e.command) history
+
+module _ {M : Type 0} where
+  -- the entries of one caller, in order
+  abbrev pub entries_of : ℕ → List (Entry M) → List (Entry M)
+  entries_of caller history = filter (λ e. e.caller == caller) history
+
+  -- in what it has seen of the history, the caller's own entries are these calls and no others
+  abbrev pub HasSeen : List (Entry M) → ℕ → List (Entry M) → Type 0
+  HasSeen seen caller calls = entries_of caller seen ≡ calls

@@ -1,0 +1,11 @@
+//! The history of a value that commands change one at a time: the journal keeps the entries and the value that they make,
+//! and the machine answers each caller with the reply at its entry's place. Both rules are this project's own.
+#![tactic(auto)]
+
+mod entry;
+mod journal;
+mod object;
+
+pub use entry::{Entry, Told};
+pub use journal::{JOURNAL_MAX, Journal, JournalRefusal};
+pub use object::Object;

@@ -1,0 +1,33 @@
+ghost use Rattle.std.specs.Prelude.{◌≡◌, ℕ, IfOk, OnErr};
+
+use plan_base::NoMemory;
+use std::alloc::Global;
+
+/// A value that commands change one at a time, each with a reply of its own.
+///
+/// What a command does is a function of the value, the caller's number, the moment and the command: `next` is the value
+/// after it, and `reply` what its caller is told. A journal keeps the commands, so each of them has to be `good`.
+pub trait Object: Sized {
+    type Command;
+
+    type Reply;
+
+    ghost start: { Self };
+
+    ghost good: { Self.Command → Type 0 };
+
+    ghost next: { Self → ℕ → ℕ → Self.Command → Self };
+
+    ghost reply: { Self → ℕ → ℕ → Self.Command → Self.Reply };
+
+    /// The value before any command.
+    fn fresh(alloc: Global) -> Result<Self, NoMemory>
+        ensures { IfOk result (λ o. o ≡ start) };
+
+    /// Does a command, in the name of a caller and at a moment. Where memory is wanting, nothing has changed.
+    fn step(&mut self, alloc: Global, caller: u32, moment: u64, command: &Self::Command) -> Result<Self::Reply, NoMemory>
+        requires { good command.now }
+        ensures next { IfOk result (λ _. self.new ≡ next self.old caller moment command.now) }
+        ensures reply { IfOk result (λ r. r ≡ reply self.old caller moment command.now) }
+        ensures err { OnErr result (self.new ≡ self.old) };
+}
