@@ -1,0 +1,2 @@
+//! Lines of bytes, cut from a source in any pieces.
+#![tactic(auto)]
