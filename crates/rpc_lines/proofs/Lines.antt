@@ -1,0 +1,53 @@
+-- The bytes of a reply's line, put together from its tokens and the text of its value.
+use Rattle.std.proofs.Common.{◌≡◌, ℕ, ℤ, pos, negsuc, List, [], ◌∷◌, ◌++◌, codes, refl, append_assoc}
+use Rattle.json.specs.Print.{print, print_from, quoted, escape_byte}
+use Rattle.serde_json.specs.Data.{Data, number}
+use Rattle.serde_json.specs.Find.{of_integer}
+use Rattle.serde_json.specs.Written.{compact_text}
+use Rattle.std.specs.Fmt.{signed_decimal}
+use Rattle.rpc_lines.specs.declared.request.Id.{Id}
+use Rattle.rpc_lines.specs.declared.request.Id.TheVariants.{Null, Unsigned, Signed, Text}
+use Rattle.rpc_lines.specs.Reply.{id_data, with_result, with_error, reply_line}
+use Rattle.rpc_lines.specs.Tokens.{id_token, result_head, error_head, error_tail}
+
+signed_text : (z : ℤ) → compact_text (number (of_integer z)) ≡ signed_decimal z
+signed_text (pos n) = refl
+signed_text (negsuc n) = refl
+
+result_head_text : (id : Id) → print (result_head id) ≡ codes "{\"id\":" ++ (compact_text (id_data id) ++ codes ",\"jsonrpc\":\"2.0\",\"result\":")
+unfolding print_from escape_byte id_token
+result_head_text Null = refl
+result_head_text (Unsigned n) = refl
+result_head_text (Signed z) = rw signed_text
+result_head_text (Text text) = refl
+
+error_head_text : (code : ℤ) → print (error_head code) ≡ codes "{\"error\":{\"code\":" ++ (compact_text (number (of_integer code)) ++ codes ",\"data\":")
+unfolding print_from escape_byte
+error_head_text code = rw signed_text
+
+error_tail_text : (message : List ℕ) (id : Id) → print (error_tail message id) ≡ codes "\"message\":" ++ (quoted message ++ ((125 ∷ codes ",\"id\":") ++ (compact_text (id_data id) ++ codes ",\"jsonrpc\":\"2.0\"}")))
+unfolding print_from escape_byte id_token
+error_tail_text message Null = refl
+error_tail_text message (Unsigned n) = refl
+error_tail_text message (Signed z) = rw signed_text
+error_tail_text message (Text text) = refl
+
+result_parts : (a t b v c d : List ℕ) → ((a ++ (t ++ b)) ++ v) ++ (c ++ d) ≡ a ++ ((t ++ (b ++ (v ++ c))) ++ d)
+result_parts a t b v c d = simp append_assoc
+
+pub result_text : (id : Id) (value : Data) → (print (result_head id) ++ compact_text value) ++ 125 ∷ 10 ∷ [] ≡ reply_line (id_data id) (with_result value)
+unfolding reply_line escape_byte
+result_text id value =
+    rw (result_head_text id) (result_parts (codes "{\"id\":") (compact_text (id_data id)) (codes ",\"jsonrpc\":\"2.0\",\"result\":") (compact_text value) (125 ∷ []) (10 ∷ []))
+
+error_parts : (a c b v k l m g h t e f : List ℕ) → ((((a ++ (c ++ b)) ++ v) ++ k) ++ (l ++ (m ++ ((g ++ h) ++ (t ++ e))))) ++ f
+    ≡ a ++ (((c ++ (b ++ (v ++ (k ++ (l ++ (m ++ g)))))) ++ (h ++ (t ++ e))) ++ f)
+error_parts a c b v k l m g h t e f = simp append_assoc
+
+pub error_text : (id : Id) (code : ℤ) (message : List ℕ) (value : Data)
+    → ((((print (error_head code) ++ compact_text value) ++ 44 ∷ []) ++ print (error_tail message id)) ++ 10 ∷ []) ≡ reply_line (id_data id) (with_error code message value)
+unfolding reply_line escape_byte
+error_text id code message value =
+    rw (error_head_text code, error_tail_text message id)
+    (error_parts (codes "{\"error\":{\"code\":") (compact_text (number (of_integer code))) (codes ",\"data\":") (compact_text value) (44 ∷ []) (codes "\"message\":")
+    (quoted message) (125 ∷ []) (codes ",\"id\":") (compact_text (id_data id)) (codes ",\"jsonrpc\":\"2.0\"}") (10 ∷ []))

@@ -1,0 +1,158 @@
+ghost use Rattle.std.specs.Prelude.{◌≡◌, ◌++◌, IfOk, false};
+ghost use Rattle.serde_json.specs.View.{view};
+ghost use Rattle.serde_json.specs.Written.{has_float};
+ghost use Rattle.rpc_lines.specs.Reply.{id_data, with_result, with_error, content_of, value_in, reply_line};
+ghost use Rattle.rpc_lines.specs.Tokens.{id_token, result_head, error_head, error_tail};
+ghost use Rattle.json.specs.Print.{print};
+ghost use Rattle.json.specs.Written.{Writes};
+
+use crate::request::Id;
+use json::Writer;
+use plan_base::{NoMemory, Text};
+use serde_json::Value;
+use std::alloc::{AllocError, Global};
+
+/// The bytes that a line is given at first: most replies fit.
+const ROOM: usize = 256;
+
+/// What a reply says of its request.
+#[derive(Drop)]
+pub enum Body {
+    /// It was done, with this result.
+    Result(Value),
+    /// It was refused. `detail` is printed under the key `data`.
+    Error {
+        code: i32,
+        message: Text,
+        detail: Value,
+    },
+}
+
+impl Body {
+    /// An error with a copy of the message.
+    pub fn error(alloc: Global, code: i32, message: &str, detail: Value) -> Result<Body, NoMemory>
+        ensures { IfOk result
+            (λ body. content_of body ≡ with_error code message.now (view detail)) }
+    {
+        let message = Text::from_text(alloc, message)?;
+        Ok(Body::Error {
+            code,
+            message,
+            detail,
+        })
+    }
+}
+
+/// The answer to one request.
+#[derive(Drop)]
+pub struct Reply {
+    pub id: Id,
+    pub body: Body,
+}
+
+/// The line of a reply, compact and with its LF: `{"id":ID,"jsonrpc":"2.0","result":R}`, or for an error
+/// `{"error":{"code":C,"data":T,"message":M},"id":ID,"jsonrpc":"2.0"}`. The keys of every object ascend by their bytes.
+/// The value must hold no number with a point or an exponent.
+pub fn write_reply(alloc: Global, reply: &Reply) -> Result<Vec<u8>, NoMemory>
+    requires { has_float (value_in (content_of reply.now.body)) ≡ false }
+    ensures { IfOk result
+        (λ line. line.items ≡ reply_line (id_data reply.now.id) (content_of reply.now.body)) }
+{
+    let line = match &reply.body {
+        Body::Result(value) => result_line(alloc, &reply.id, value)?,
+        Body::Error {
+            code,
+            message,
+            detail,
+        } => error_line(alloc, &reply.id, *code, message.as_str(), detail)?,
+    };
+    Ok(line)
+}
+
+#[tactic(auto, using(crate::proofs::Lines::result_text))]
+fn result_line(alloc: Global, id: &Id, value: &Value) -> Result<Vec<u8>, AllocError>
+    requires { has_float (view value.now) ≡ false }
+    ensures { IfOk result
+        (λ line. line.items ≡ reply_line (id_data id.now) (with_result (view value.now))) }
+{
+    let result = value.to_vec(alloc)?;
+    let mut line = result_start(alloc, id)?;
+    line.extend_from_slice(&result)?;
+    line.extend_from_slice(b"}\n")?;
+    Ok(line)
+}
+
+#[tactic(auto, using(crate::proofs::Lines::error_text))]
+fn error_line(
+    alloc: Global,
+    id: &Id,
+    code: i32,
+    message: &str,
+    detail: &Value,
+) -> Result<Vec<u8>, AllocError>
+    requires { has_float (view detail.now) ≡ false }
+    ensures { IfOk result
+        (λ line. line.items
+        ≡ reply_line (id_data id.now) (with_error code message.now (view detail.now))) }
+{
+    let detail = detail.to_vec(alloc)?;
+    let mut line = error_start(alloc, code)?;
+    line.extend_from_slice(&detail)?;
+    line.push(b',')?;
+    let mut line = error_end(line, message, id)?;
+    line.push(b'\n')?;
+    Ok(line)
+}
+
+fn result_start(alloc: Global, id: &Id) -> Result<Vec<u8>, AllocError>
+    ensures { IfOk result (λ line. line.items ≡ print (result_head id.now)) }
+{
+    let mut out = Writer::new(Vec::with_capacity(alloc, ROOM)?);
+    out.begin_object()?;
+    out.key("id")?;
+    write_id(&mut out, id)?;
+    out.key("jsonrpc")?;
+    out.string("2.0")?;
+    out.key("result")?;
+    Ok(out.into_inner())
+}
+
+fn error_start(alloc: Global, code: i32) -> Result<Vec<u8>, AllocError>
+    ensures { IfOk result (λ line. line.items ≡ print (error_head code)) }
+{
+    let mut out = Writer::new(Vec::with_capacity(alloc, ROOM)?);
+    out.begin_object()?;
+    out.key("error")?;
+    out.begin_object()?;
+    out.key("code")?;
+    out.i64(code as i64)?;
+    out.key("data")?;
+    Ok(out.into_inner())
+}
+
+fn error_end(line: Vec<u8>, message: &str, id: &Id) -> Result<Vec<u8>, AllocError>
+    ensures { IfOk result (λ whole. whole.items ≡ line.items ++ print (error_tail message.now id.now)) }
+{
+    let mut out = Writer::new(line);
+    out.key("message")?;
+    out.string(message)?;
+    out.end_object()?;
+    out.key("id")?;
+    write_id(&mut out, id)?;
+    out.key("jsonrpc")?;
+    out.string("2.0")?;
+    out.end_object()?;
+    Ok(out.into_inner())
+}
+
+#[tactic(auto, unfolding(crate::specs::Tokens::id_token))]
+fn write_id(out: &mut Writer, id: &Id) -> Result<(), AllocError>
+    ensures { Writes result out.old out.new (id_token id.now) }
+{
+    match id {
+        Id::Null => out.null(),
+        Id::Unsigned(n) => out.u64(*n),
+        Id::Signed(n) => out.i64(*n),
+        Id::Text(text) => out.string(text.as_str()),
+    }
+}
