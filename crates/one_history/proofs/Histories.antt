@@ -1,9 +1,9 @@
 -- An object keeps its history as entries come.
-use Rattle.std.proofs.Common.{◌≡◌, ℕ, ◌<◌, ◌≤◌, List, [], ◌∷◌, ◌++◌, length, length-append, arith, sym, ◌∙◌, ap, rules}
+use Rattle.std.proofs.Common.{◌≡◌, ℕ, ◌<◌, List, [], ◌∷◌, ◌++◌, length, length-append, arith, sym, ◌∙◌, ap}
 use Rattle.std.proofs.lemmas.List.Elements.{All-nil, All-push}
 use Rattle.one_history.specs.declared.entry.Entry.{Entry}
 use Rattle.one_history.specs.declared.journal.TheConstants.{JOURNAL_MAX}
-use Rattle.one_history.specs.History.{fold, entry_of, IsHistoryOf}
+use Rattle.one_history.specs.History.{entry_of, IsHistoryOf}
 use Rattle.one_history.proofs.Folds.{fold_none, fold_push}
 
 module _ {S M : Type 0} (next : S → ℕ → ℕ → M → S) (start : S) (good : M → Type 0) where

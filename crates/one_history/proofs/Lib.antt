@@ -1,2 +1,4 @@
 pub mod Folds
 pub mod Histories
+pub mod Keeping
+pub mod Places

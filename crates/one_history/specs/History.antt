@@ -1,10 +1,15 @@
 -- A history is a list of entries, with places from 0. What it makes of an object, and what the caller of an entry was told.
-use Rattle.std.specs.Prelude.{◌≡◌, ◌==◌, ℕ, ◌≤◌, List, [], ◌∷◌, length, take, filter, slice_get, All, Option, option_map}
+use Rattle.std.specs.Prelude.{◌≡◌, ◌==◌, ℕ, ◌≤◌, List, [], ◌∷◌, length, take, filter, slice_get, All, Option, Some, option_map}
 use Rattle.one_history.specs.declared.entry.Entry.{Entry}
+use Rattle.one_history.specs.declared.entry.Told.{Told}
 use Rattle.one_history.specs.declared.journal.TheConstants.{JOURNAL_MAX}
 
 abbrev pub entry_of : {M : Type 0} → ℕ → ℕ → M → Entry M
 entry_of caller moment command = record { caller = caller; moment = moment; command = command }
+
+-- whose entry stands at a place
+unfoldable pub caller_at : {M : Type 0} → List (Entry M) → ℕ → Option ℕ
+caller_at history place = option_map (λ e. e.caller) (slice_get history place)
 
 module _ {S M : Type 0} (next : S → ℕ → ℕ → M → S) where
   -- the state after all entries of a history, oldest first
@@ -22,6 +27,11 @@ module _ {S M : Type 0} (next : S → ℕ → ℕ → M → S) where
     pub folded : object ≡ fold start history
     pub bounded : length history ≤ JOURNAL_MAX
     pub good : All (λ e. IsGood e.command) history
+
+  -- what a caller is told is the reply to an entry of its own, at the entry's place in the history
+  pub record IsReplyTo {R : Type 0} (start : S) (reply : S → ℕ → ℕ → M → R) (history : List (Entry M)) (by : ℕ) (told : Told R) : Type 0 where
+    pub caller : caller_at history told.at ≡ Some by
+    pub reply_is : reply_at start reply history told.at ≡ Some told.reply
 
 module _ {M : Type 0} where
   -- the entries of one caller, in order

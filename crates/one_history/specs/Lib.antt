@@ -1,2 +1,4 @@
 pub mod History
+pub mod Core
+pub mod Machine
 pub mod Refusals

@@ -4,8 +4,10 @@
 
 mod entry;
 mod journal;
+mod machine;
 mod object;
 
 pub use entry::{Entry, Told};
 pub use journal::{JOURNAL_MAX, Journal, JournalRefusal};
+pub use machine::{Machine, MachineRefusal};
 pub use object::Object;

@@ -1,0 +1,44 @@
+-- What stands at a place of a history stays there as the history grows.
+use Rattle.std.proofs.Common.{◌≡◌, ℕ, List, [], ◌∷◌, ◌++◌, length, Some, refl, suc, zero}
+use Rattle.one_history.specs.declared.entry.Entry.{Entry}
+use Rattle.one_history.specs.declared.entry.Told.{Told}
+use Rattle.one_history.specs.History.{fold, caller_at, reply_at, IsReplyTo}
+
+module _ {M : Type 0} where
+  pub caller_at_append : (history tail : List (Entry M)) (place caller : ℕ) → caller_at history place ≡ Some caller → caller_at (history ++ tail) place ≡ Some caller
+  unfolding caller_at
+  caller_at_append [] tail place caller at = cc
+  caller_at_append (e ∷ history) tail zero caller at = at
+  caller_at_append (e ∷ history) tail (suc place) caller at = caller_at_append history tail place caller at
+
+  pub caller_at_push : (history : List (Entry M)) (e : Entry M) → caller_at (history ++ e ∷ []) (length history) ≡ Some e.caller
+  unfolding caller_at
+  caller_at_push [] e = refl
+  caller_at_push (x ∷ history) e = caller_at_push history e
+
+module _ {S M R : Type 0} (next : S → ℕ → ℕ → M → S) (reply : S → ℕ → ℕ → M → R) where
+  pub reply_at_append : (start : S) (history tail : List (Entry M)) (place : ℕ) (r : R) → reply_at next start reply history place ≡ Some r → reply_at next start reply (history ++ tail) place ≡ Some r
+  unfolding reply_at fold
+  reply_at_append start [] tail place r at = cc
+  reply_at_append start (e ∷ history) tail zero r at = at
+  reply_at_append start (e ∷ history) tail (suc place) r at = reply_at_append (next start e.caller e.moment e.command) history tail place r at
+
+  pub reply_at_push : (start : S) (history : List (Entry M)) (e : Entry M) → reply_at next start reply (history ++ e ∷ []) (length history) ≡ Some (reply (fold next start history) e.caller e.moment e.command)
+  unfolding reply_at fold
+  reply_at_push start [] e = refl
+  reply_at_push start (x ∷ history) e = reply_at_push (next start x.caller x.moment x.command) history e
+
+  -- so what a caller is told stays the reply to its entry
+  pub reply_to_append : (start : S) (history tail : List (Entry M)) (caller : ℕ) (told : Told R) → IsReplyTo next start reply history caller told → IsReplyTo next start reply (history ++ tail) caller told
+  reply_to_append start history tail caller told is = record {
+    caller = caller_at_append history tail told.at caller is.caller;
+    reply_is = reply_at_append start history tail told.at told.reply is.reply_is;
+  }
+
+  -- and an entry that comes is told by the fold of those in front of it
+  pub reply_to_push : (start : S) (history : List (Entry M)) (e : Entry M) (told : Told R) → told.at ≡ length history
+      → told.reply ≡ reply (fold next start history) e.caller e.moment e.command → IsReplyTo next start reply (history ++ e ∷ []) e.caller told
+  reply_to_push start history e told at is = record {
+    caller = rw at (caller_at_push history e);
+    reply_is = rw (at, is) (reply_at_push start history e);
+  }
