@@ -1,2 +1,4 @@
+pub mod Fault
 pub mod Reply
+pub mod Request
 pub mod Tokens
