@@ -1,4 +1,5 @@
 pub mod Fault
+pub mod First
 pub mod Reply
 pub mod Request
 pub mod Tokens

@@ -37,11 +37,11 @@ pub data Asked : Type 0 where
   -- it is read and is no request; the id is its own where that is of a right kind, else null
   not_request : Id → Asked
   -- an id, a method and its parameters
-  request : Id → List ℕ → Data → Asked
+  asks : Id → List ℕ → Data → Asked
 
 -- Each of the parts has to be there, or absent in a right way.
 abbrev pub asked_by : Option Id → Option (List ℕ) → Option Data → Asked
-asked_by (Some id) (Some method) (Some params) = request id method params
+asked_by (Some id) (Some method) (Some params) = asks id method params
 asked_by (Some id) (Some method) None = not_request id
 asked_by (Some id) None params = not_request id
 asked_by None method params = not_request Null

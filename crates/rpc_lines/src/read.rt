@@ -1,7 +1,7 @@
 ghost use Rattle.std.specs.Prelude.{◌≡◌, List, ℕ, IfOk, IfErr, None, false, bytes_eq, option_map, option_and_then};
 ghost use Rattle.serde_json.specs.Find.{get_member, as_str};
 ghost use Rattle.serde_json.specs.View.{view, members_view};
-ghost use Rattle.rpc_lines.specs.Request.{value_of, id_of, params_of, asked_in, request_of, request};
+ghost use Rattle.rpc_lines.specs.Request.{value_of, id_of, params_of, asked_in, request_of, asks};
 ghost use Rattle.rpc_lines.specs.Fault.{IsFaultOf};
 
 use crate::request::{Id, Request, RpcFault};
@@ -18,7 +18,7 @@ use std::alloc::Global;
 #[tactic(auto, unfolding(crate::specs::Request::request_of))]
 pub fn read_request(alloc: Global, line: &[u8]) -> Result<Request, RpcFault>
     ensures ok { IfOk result
-        (λ asked. request_of line.now ≡ request asked.id asked.method (view asked.params)) }
+        (λ asked. request_of line.now ≡ asks asked.id asked.method (view asked.params)) }
     ensures err { IfErr result (λ fault. IsFaultOf fault (request_of line.now)) }
 {
     match read_value(alloc, line)? {
@@ -42,7 +42,7 @@ fn read_value(alloc: Global, line: &[u8]) -> Result<Option<Value>, NoMemory>
 fn request_in(alloc: Global, members: Map<String, Value>) -> Result<Request, RpcFault>
     ensures ok { IfOk result
         (λ asked. asked_in (members_view members.entries)
-        ≡ request asked.id asked.method (view asked.params)) }
+        ≡ asks asked.id asked.method (view asked.params)) }
     ensures err { IfErr result (λ fault. IsFaultOf fault (asked_in (members_view members.entries))) }
 {
     let mut members = members;
