@@ -1,10 +1,8 @@
 -- The lines of bytes, from the front.
-use Rattle.std.proofs.Common.{◌≡◌, ℕ, ◌+◌, ◌<◌, ◌≤◌, ◌==◌, List, [], ◌∷◌, ◌++◌, length, take, drop, Bool, true, false, not, refl, arith, suc, sym, rules}
-use Rattle.std.specs.List.{position_or_len}
-use Rattle.line_cut.specs.Lines.{line_feed, onto_first, lines_of}
-
-abbrev pub is_feed : ℕ → Bool
-is_feed byte = byte == line_feed
+use Rattle.std.proofs.Common.{◌≡◌, ℕ, ◌+◌, ◌<◌, ◌≤◌, ◌==◌, List, [], ◌∷◌, ◌++◌, length, take, drop, Bool, true, false, not, refl, arith, suc, cond, nat_lt, Some, None}
+use Rattle.std.specs.List.{position_or_len, position}
+use Rattle.std.proofs.lemmas.Bool.{ltb-true, ltb-false}
+use Rattle.line_cut.specs.Lines.{is_feed, onto_first, lines_of}
 
 -- the three equations of the definition
 pub lines_of_none : lines_of [] ≡ []
@@ -27,10 +25,10 @@ lines_of_onto byte bytes n other rest = rw (lines_of_other byte bytes other, res
 
 lines_of_next : (byte : ℕ) (bytes : List ℕ) (feed : Bool) → is_feed byte ≡ feed
     → (position_or_len is_feed bytes < length bytes
-        → lines_of bytes ≡ take (position_or_len is_feed bytes) bytes ∷ lines_of (drop (position_or_len is_feed bytes + 1) bytes))
+    → lines_of bytes ≡ take (position_or_len is_feed bytes) bytes ∷ lines_of (drop (position_or_len is_feed bytes + 1) bytes))
     → position_or_len is_feed (byte ∷ bytes) < length (byte ∷ bytes)
     → lines_of (byte ∷ bytes)
-        ≡ take (position_or_len is_feed (byte ∷ bytes)) (byte ∷ bytes) ∷ lines_of (drop (position_or_len is_feed (byte ∷ bytes) + 1) (byte ∷ bytes))
+    ≡ take (position_or_len is_feed (byte ∷ bytes)) (byte ∷ bytes) ∷ lines_of (drop (position_or_len is_feed (byte ∷ bytes) + 1) (byte ∷ bytes))
 lines_of_next byte bytes true is rest within = rw (lines_of_feed byte bytes is, is) refl
 lines_of_next byte bytes false is rest within =
     let n : ℕ = position_or_len is_feed bytes in
@@ -65,3 +63,25 @@ last_line_next byte (next ∷ bytes) false is rest none =
 pub lines_of_last : (bytes : List ℕ) → length bytes ≤ position_or_len is_feed bytes → 0 < length bytes → lines_of bytes ≡ bytes ∷ []
 lines_of_last [] none some = absurd (omega (arith, some))
 lines_of_last (byte ∷ bytes) none some = last_line_next byte bytes (is_feed byte) refl (λ within more. lines_of_last bytes within more) none
+
+-- the place at which a search found the first LF
+found_at : (bytes : List ℕ) (place : ℕ) (found : Bool) → nat_lt (position_or_len is_feed bytes) (length bytes) ≡ found
+    → cond found (Some (position_or_len is_feed bytes)) None ≡ Some place
+    → lines_of bytes ≡ take place bytes ∷ lines_of (drop (place + 1) bytes)
+found_at bytes place true below is =
+    let same : position_or_len is_feed bytes ≡ place = cc in
+    rw (← same) (lines_of_first bytes (ltb-true _ _ below))
+found_at bytes place false below is = cc
+
+pub lines_of_found : (bytes : List ℕ) (place : ℕ) → position is_feed bytes ≡ Some place
+    → lines_of bytes ≡ take place bytes ∷ lines_of (drop (place + 1) bytes)
+lines_of_found bytes place is = found_at bytes place _ refl is
+
+not_found : (bytes : List ℕ) (found : Bool) → nat_lt (position_or_len is_feed bytes) (length bytes) ≡ found
+    → cond found (Some (position_or_len is_feed bytes)) None ≡ None
+    → 0 < length bytes → lines_of bytes ≡ bytes ∷ []
+not_found bytes true below is some = cc
+not_found bytes false below is some = lines_of_last bytes (ltb-false _ _ below) some
+
+pub lines_of_unfound : (bytes : List ℕ) → position is_feed bytes ≡ None → 0 < length bytes → lines_of bytes ≡ bytes ∷ []
+lines_of_unfound bytes is some = not_found bytes _ refl is some

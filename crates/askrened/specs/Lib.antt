@@ -1,0 +1,4 @@
+pub mod Run
+pub mod Session
+pub mod Status
+pub mod Transfer

@@ -1,0 +1,35 @@
+ghost use Rattle.std.specs.Prelude.{◌≡◌};
+ghost use Rattle.askrened.specs.Status.{code_of};
+
+/// How the program ended. Its code is the exit status.
+#[derive(Clone, Copy, Debug, PartialEq, Eq)]
+pub enum Status {
+    /// All was read and answered.
+    Ok,
+    /// The words of the command line are no command.
+    Usage,
+    /// A read of the input failed.
+    ReadFault,
+    /// A write of the output failed.
+    WriteFault,
+    /// There was no memory.
+    NoMemory,
+    /// The input was too long.
+    Long,
+}
+
+impl Status {
+    /// The exit status.
+    pub fn code(&self) -> u8
+        ensures { result ≡ code_of self.now }
+    {
+        match self {
+            Status::Ok => 0,
+            Status::Usage => 2,
+            Status::ReadFault => 4,
+            Status::WriteFault => 5,
+            Status::NoMemory => 6,
+            Status::Long => 9,
+        }
+    }
+}
