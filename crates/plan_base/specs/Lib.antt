@@ -1,0 +1,5 @@
+pub mod Number
+pub mod Amount
+pub mod NodeId
+pub mod Scid
+pub mod Dir

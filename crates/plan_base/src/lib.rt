@@ -1,12 +1,21 @@
-//! Values that every crate of askrened speaks of: want of memory, and lists and texts that clauses can compare.
+//! Values that every crate of askrened speaks of: node ids, short channel ids, directions and amounts with their texts,
+//! want of memory, and lists and texts that clauses can compare.
 #![tactic(auto)]
 
 mod amount;
+mod channel_id;
 mod items;
 mod memory;
+mod node_id;
+mod number;
 mod text;
 
-pub use amount::MAX;
+pub use amount::{MAX, MsatFault, read_msat, write_msat};
+pub use channel_id::{Dir, Scid, ScidFault};
 pub use items::Items;
 pub use memory::NoMemory;
+pub use node_id::{IdFault, NodeId};
 pub use text::Text;
+
+#[cfg(test)]
+mod tests;

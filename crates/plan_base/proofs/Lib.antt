@@ -1,0 +1,4 @@
+pub mod Numbers
+pub mod Ids
+pub mod Amounts
+pub mod NodeIds

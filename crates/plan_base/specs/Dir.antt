@@ -1,0 +1,31 @@
+-- Directions of a channel: its short channel id and a side, written `id/0` or `id/1`.
+use Rattle.std.specs.Prelude.{ℕ, ◌+◌, ◌==◌, Bool, List, [], ◌∷◌, ◌++◌, Option, Some, None, if◌then◌else◌}
+use Rattle.std.specs.List.{before_first, after_first}
+use Rattle.plan_base.specs.Scid.{scid_of, scid_text}
+
+-- one direction of a channel; side 0 leads from the node with the lesser id
+pub record Direction : Type 0 where
+  pub scid : ℕ
+  pub side : ℕ
+
+-- the slash in front of the side
+abbrev pub is_slash : ℕ → Bool
+is_slash c = c == 47
+
+-- the side that a text writes: `0` or `1`
+abbrev pub side_of : List ℕ → Option ℕ
+side_of (c ∷ []) = if c == 48 then Some 0 else if c == 49 then Some 1 else None
+side_of _ = None
+
+-- the direction of an id and a side that were read
+abbrev pub dir_from : Option ℕ → Option ℕ → Option Direction
+dir_from (Some scid) (Some side) = Some (record { scid = scid; side = side })
+dir_from _ _ = None
+
+-- the direction that a text writes
+unfoldable pub dir_of : List ℕ → Option Direction
+dir_of text = dir_from (scid_of (before_first is_slash text)) (side_of (after_first is_slash text))
+
+-- the text of a direction
+abbrev pub dir_text : Direction → List ℕ
+dir_text dir = scid_text dir.scid ++ 47 ∷ (48 + dir.side) ∷ []

@@ -1,0 +1,112 @@
+ghost use Rattle.std.specs.Prelude.{◌≡◌, Some, not, position, string_bytes, IfOk, IfErr};
+ghost use Rattle.std.specs.Result.{result_ok};
+ghost use Rattle.hex.specs.Hex.{is_hex_digit};
+ghost use Rattle.plan_base.specs.NodeId.{node_id_from, node_id_of, node_id_text, id_fault_at};
+
+use crate::NoMemory;
+use std::alloc::Global;
+use std::error::Error;
+use std::fmt;
+use std::marker::Model;
+
+/// The id of a Lightning node: a compressed public key of 33 bytes, the first of them 2 or 3 (BOLT 7).
+/// Ids are ordered as bytes.
+#[derive(Clone, Copy, Debug, PartialEq, Eq, PartialOrd, Ord, Hash)]
+pub struct NodeId {
+    bytes: [u8; 33],
+}
+
+impl Model for NodeId {
+    ghost use Rattle.std.specs.Prelude.{ℕ, List};
+    ghost use Rattle.plan_base.specs.NodeId.{IsNodeId};
+
+    ghost Value = { List ℕ };
+
+    ghost view = { λ id. id.bytes };
+
+    ghost invariant = { λ id. IsNodeId id.bytes };
+
+    ghost inverse = { λ bytes. record { bytes = bytes } };
+}
+
+/// Where a text that is no node id is at fault.
+#[derive(Clone, Copy, Debug, PartialEq, Eq)]
+pub struct IdFault {
+    /// The least place below 66 of a byte that is no hexadecimal digit; else, where the text hasn't 66 bytes, the lesser
+    /// of its length and 66; else 0, since the first byte is neither 02 nor 03.
+    pub at: usize,
+}
+
+impl fmt::Display for IdFault {
+    fn fmt<W: fmt::Write>(&self, f: &mut fmt::Formatter<W>) -> fmt::Result {
+        write!(f, "not a node id, at byte {}", self.at)
+    }
+}
+
+impl Error for IdFault {}
+
+fn is_digit(byte: u8) -> bool
+    ensures { result ≡ is_hex_digit byte }
+{
+    matches!(byte, b'A'..=b'F' | b'a'..=b'f' | b'0'..=b'9')
+}
+
+fn first_no_digit(bytes: &[u8]) -> Option<usize>
+    ensures { result ≡ position (λ c. not (is_hex_digit c)) bytes.now }
+{
+    bytes.iter().position(|byte| !is_digit(*byte))
+}
+
+#[tactic(auto, unfolding(crate::specs::NodeId::id_fault_at))]
+fn fault_at(text: &str) -> usize
+    ensures { result ≡ id_fault_at text.now }
+{
+    let end = text.len().min(66);
+    match first_no_digit(&text.as_bytes()[..end]) {
+        Some(at) => at,
+        None if text.len() == 66 => 0,
+        None => end,
+    }
+}
+
+impl NodeId {
+    fn from_bytes(bytes: [u8; 33]) -> Option<NodeId>
+        ensures { result ≡ node_id_from bytes }
+    {
+        if bytes[0] == 2 || bytes[0] == 3 {
+            Some(NodeId { bytes })
+        } else {
+            None
+        }
+    }
+
+    #[tactic(auto, unfolding(crate::specs::NodeId::node_id_of))]
+    fn decode(text: &str) -> Option<NodeId>
+        ensures { result ≡ node_id_of text.now }
+    {
+        let mut bytes = [0; 33];
+        match hex::decode_to_slice(text, &mut bytes) {
+            Ok(()) => NodeId::from_bytes(bytes),
+            Err(_) => None,
+        }
+    }
+
+    /// Reads 66 hexadecimal digits of either case whose first byte is 02 or 03. Takes no memory.
+    pub fn read(text: &str) -> Result<NodeId, IdFault>
+        ensures value { result_ok result ≡ node_id_of text.now }
+        ensures fault { IfErr result (λ fault. fault.at ≡ id_fault_at text.now) }
+    {
+        match NodeId::decode(text) {
+            Some(id) => Ok(id),
+            None => Err(IdFault { at: fault_at(text) }),
+        }
+    }
+
+    /// Writes 66 lower case hexadecimal digits, which are read back as the same id.
+    pub fn write(&self, alloc: Global) -> Result<String, NoMemory>
+        ensures text { IfOk result (λ text. string_bytes text ≡ node_id_text self.now) }
+        ensures read_back { IfOk result (λ text. node_id_of (string_bytes text) ≡ Some self.now) }
+    {
+        Ok(hex::encode(alloc, &self.bytes)?)
+    }
+}
