@@ -6,6 +6,8 @@ mod event_reply;
 mod line;
 mod run;
 mod status;
+#[cfg(test)]
+mod tests;
 mod transfer;
 
 use port_io::{StdClock, StdPlaces, StdSink, StdSource};

@@ -13,6 +13,8 @@ mod std_clock;
 mod std_places;
 mod std_stream;
 mod stream;
+#[cfg(test)]
+mod tests;
 
 pub use clock::Clock;
 pub use fault::{Failed, PlaceFault};
