@@ -1,5 +1,5 @@
 -- What stands at a place of a history stays there as the history grows.
-use Rattle.std.proofs.Common.{◌≡◌, ℕ, List, [], ◌∷◌, ◌++◌, length, Some, refl, suc, zero}
+use Rattle.std.proofs.Common.{◌≡◌, ℕ, List, [], ◌∷◌, ◌++◌, length, Some, refl, suc, zero, ◌<◌, slice_get, arith}
 use Rattle.one_history.specs.declared.entry.Entry.{Entry}
 use Rattle.one_history.specs.declared.entry.Told.{Told}
 use Rattle.one_history.specs.History.{fold, caller_at, reply_at, IsReplyTo}
@@ -15,6 +15,21 @@ module _ {M : Type 0} where
   unfolding caller_at
   caller_at_push [] e = refl
   caller_at_push (x ∷ history) e = caller_at_push history e
+
+  pub caller_at_within : (history : List (Entry M)) (place caller : ℕ) → caller_at history place ≡ Some caller → place < length history
+  unfolding caller_at
+  caller_at_within [] place caller at = cc
+  caller_at_within (e ∷ history) zero caller at = omega arith
+  caller_at_within (e ∷ history) (suc place) caller at = let rest = caller_at_within history place caller at in omega (arith, rest)
+
+  pub slice_get_append : (history tail : List (Entry M)) (place : ℕ) (e : Entry M) → slice_get history place ≡ Some e → slice_get (history ++ tail) place ≡ Some e
+  slice_get_append [] tail place e at = cc
+  slice_get_append (x ∷ history) tail zero e at = at
+  slice_get_append (x ∷ history) tail (suc place) e at = slice_get_append history tail place e at
+
+  pub slice_get_push : (history : List (Entry M)) (e : Entry M) → slice_get (history ++ e ∷ []) (length history) ≡ Some e
+  slice_get_push [] e = refl
+  slice_get_push (x ∷ history) e = slice_get_push history e
 
 module _ {S M R : Type 0} (next : S → ℕ → ℕ → M → S) (reply : S → ℕ → ℕ → M → R) where
   pub reply_at_append : (start : S) (history tail : List (Entry M)) (place : ℕ) (r : R) → reply_at next start reply history place ≡ Some r → reply_at next start reply (history ++ tail) place ≡ Some r

@@ -1,4 +1,5 @@
 pub mod History
 pub mod Core
+pub mod CoreRun
 pub mod Machine
 pub mod Refusals

@@ -6,8 +6,10 @@ mod entry;
 mod journal;
 mod machine;
 mod object;
+mod steps;
 
 pub use entry::{Entry, Told};
 pub use journal::{JOURNAL_MAX, Journal, JournalRefusal};
 pub use machine::{Machine, MachineRefusal};
 pub use object::Object;
+pub use steps::{Outcome, Step, play, take_step};
