@@ -51,7 +51,7 @@ module _ {R : Type 0} where
       by : (b : Bool) → nat_eq caller k.0 ≡ b
           → places_kept (remove_entry (nat_eq caller) kept) ≡ filter (λ w. not (nat_eq caller w.0)) (places_kept kept)
           → places_kept (cond (nat_eq caller k.0) kept (k ∷ remove_entry (nat_eq caller) kept))
-              ≡ cond (not (nat_eq caller k.0)) ((k.0, k.1.at) ∷ filter (λ w. not (nat_eq caller w.0)) (places_kept kept)) (filter (λ w. not (nat_eq caller w.0)) (places_kept kept))
+          ≡ cond (not (nat_eq caller k.0)) ((k.0, k.1.at) ∷ filter (λ w. not (nat_eq caller w.0)) (places_kept kept)) (filter (λ w. not (nat_eq caller w.0)) (places_kept kept))
       by true is rest = rw is (sym (unshown caller kept (subst (λ c. AllByRecursion (λ key. nat_eq c key ≡ false) (keys_of kept)) (sym (eqb-true caller k.0 is)) distinct.0)))
       by false is rest = rw is (ap (λ ws. (k.0, k.1.at) ∷ ws) rest)
 
@@ -134,8 +134,8 @@ pub kept_push : {R S E : Type 0} (kept : List (ℕ × Told R)) (reserved : Index
     → OnOk inserted (kept' ≡ insert_entry nat_eq reserved.entries caller told) → kept' ≡ kept ++ (caller, told) ∷ []
 kept_push kept reserved caller told kept' inserted same none succeeds on_ok =
     IfOk-at_ok (λ _. kept' ≡ insert_entry nat_eq reserved.entries caller told) succeeds on_ok
-        ∙ insert_entry-new nat_eq reserved caller told (rw same (sym none))
-        ∙ ap (λ es. es ++ (caller, told) ∷ []) same
+    ∙ insert_entry-new nat_eq reserved caller told (rw same (sym none))
+    ∙ ap (λ es. es ++ (caller, told) ∷ []) same
 
 -- a journal's refusal, handed on as a machine's
 pub refuses_event : {M R : Type 0} (history : List (Entry M)) (kept : List (ℕ × Told R)) (core : Core M) (caller : ℕ) (result : Result ℕ MachineRefusal) (refusal : JournalRefusal)

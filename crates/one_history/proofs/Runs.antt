@@ -39,7 +39,7 @@ module _ {S M R : Type 0} (next : S → ℕ → ℕ → M → S) (start : S) (re
     once = keys_push caller (length core.history) core.waiting is.0 old.once;
     own = All-push (λ w. caller_at (core.history ++ entry_of caller moment command ∷ []) w.1 ≡ Some w.0) core.waiting (caller, length core.history)
         (All-weaker (λ w. caller_at core.history w.1 ≡ Some w.0) (λ w. caller_at (core.history ++ entry_of caller moment command ∷ []) w.1 ≡ Some w.0)
-            (λ w at. caller_at_append core.history (entry_of caller moment command ∷ []) w.1 w.0 at) core.waiting old.own)
+        (λ w at. caller_at_append core.history (entry_of caller moment command ∷ []) w.1 w.0 at) core.waiting old.own)
         (caller_at_push core.history (entry_of caller moment command));
   })
   step_core core (Event caller moment command) (Placed (Err refusal)) after is old = rw is.1 old
@@ -103,9 +103,10 @@ module _ {S M R : Type 0} (next : S → ℕ → ℕ → M → S) (start : S) (re
   run_outcomes [] [] core after old is = tt
   run_outcomes [] (o ∷ outcomes) core after old is = absurd is
   run_outcomes (s ∷ steps) [] core after old is = absurd is
-  run_outcomes (s ∷ steps) (o ∷ outcomes) core after old (middle, step, rest) =
-      ( later (run_grows steps outcomes middle after rest)
-      , run_outcomes steps outcomes middle after (step_core core s o middle step old) rest)
+  run_outcomes (s ∷ steps) (o ∷ outcomes) core after old (middle, step, rest) = (
+    later (run_grows steps outcomes middle after rest),
+    run_outcomes steps outcomes middle after (step_core core s o middle step old) rest,
+  )
     where
       later : (tail : List (Entry M)) × (after.history ≡ middle.history ++ tail) → IsOutcomeIn next start reply after.history s o
       later (tail, grows) = subst (λ h. IsOutcomeIn next start reply h s o) (sym grows) (outcome_append middle.history tail s o (outcome_here core s o middle step old))
@@ -160,6 +161,7 @@ module _ {S M R : Type 0} (next : S → ℕ → ℕ → M → S) (start : S) (re
     where
       grown : length after.history ≡ length core.history + 1
       grown = rw is.3 (length-append core.history (entry_of caller moment command ∷ []))
+
       by : (b : Bool) → nat_eq (length core.history) place ≡ b → (Waits after place ⊎ (length after.history ≤ place)) ⊎ (place_answered {R = R} (Placed (Ok at)) ≡ Some place)
       by true same =
           let e : length core.history ≡ place = eqb-true (length core.history) place same in
@@ -185,6 +187,7 @@ module _ {S M R : Type 0} (next : S → ℕ → ℕ → M → S) (start : S) (re
     where
       own : caller_at core.history told.at ≡ Some caller
       own = own_found core.history caller core.waiting told.at old.own is.0
+
       by : (b : Bool) → nat_eq told.at place ≡ b → Waits after place ⊎ (length after.history ≤ place) → nat_eq told.at place ≡ false
       by true same (inl (other, found)) =
           let both = lookup_without caller other core.waiting place (rw is.2 at found) in
@@ -211,18 +214,20 @@ module _ {S M R : Type 0} (next : S → ℕ → ℕ → M → S) (start : S) (re
   step_once core (Event caller moment command) (Placed at) middle outcomes after is old rest =
       (rest.0, all_weaker _ (λ place. Waits core place ⊎ (length core.history ≤ place)) (waits_before core (Event caller moment command) (Placed at) middle is) (places_told outcomes after) rest.1)
   step_once core (Event caller moment command) (Answered told) middle outcomes after is old rest = absurd is
-  step_once core (Answer caller) (Answered (Some told)) middle outcomes after is old rest =
-      ( (all_weaker _ (λ place. nat_eq told.at place ≡ false) (answered_apart core caller told middle is old) (places_told outcomes after) rest.1, rest.0)
-      , (inl (caller, is.0), all_weaker _ (λ place. Waits core place ⊎ (length core.history ≤ place)) (waits_before core (Answer caller) (Answered (Some told)) middle is) (places_told outcomes after) rest.1))
+  step_once core (Answer caller) (Answered (Some told)) middle outcomes after is old rest = (
+    (all_weaker _ (λ place. nat_eq told.at place ≡ false) (answered_apart core caller told middle is old) (places_told outcomes after) rest.1, rest.0),
+    (inl (caller, is.0), all_weaker _ (λ place. Waits core place ⊎ (length core.history ≤ place)) (waits_before core (Answer caller) (Answered (Some told)) middle is) (places_told outcomes after) rest.1),
+  )
   step_once core (Answer caller) (Answered None) middle outcomes after is old rest =
       (rest.0, all_weaker _ (λ place. Waits core place ⊎ (length core.history ≤ place)) (waits_before core (Answer caller) (Answered None) middle is) (places_told outcomes after) rest.1)
   step_once core (Answer caller) (Placed at) middle outcomes after is old rest = absurd is
 
   run_once : (steps : List (Step M)) (outcomes : List (Outcome R)) (core after : Core M) → IsCore core → IsCoreRun next start reply core steps outcomes after → Once outcomes core after
   unfolding IsCoreRun
-  run_once [] [] core after old is = rw is
-      ( places_distinct core.history core.waiting old.once old.own
-      , all_weaker (Waits core) (λ place. Waits core place ⊎ (length core.history ≤ place)) (λ place waits. inl waits) (values_of core.waiting) (each_found core.waiting old.once))
+  run_once [] [] core after old is = rw is (
+    places_distinct core.history core.waiting old.once old.own,
+    all_weaker (Waits core) (λ place. Waits core place ⊎ (length core.history ≤ place)) (λ place waits. inl waits) (values_of core.waiting) (each_found core.waiting old.once),
+  )
   run_once [] (o ∷ outcomes) core after old is = absurd is
   run_once (s ∷ steps) [] core after old is = absurd is
   run_once (s ∷ steps) (o ∷ outcomes) core after old (middle, step, rest) =

@@ -64,6 +64,7 @@ lookup_without caller other (x ∷ ws) place found = by (nat_eq caller x.0) (nat
   where
     Rest : Type 0
     Rest = lookup (nat_eq other) (filter (λ w. not (nat_eq caller w.0)) ws) ≡ Some place → (nat_eq caller other ≡ false) × (lookup (nat_eq other) ws ≡ Some place)
+
     by : (b c : Bool) → nat_eq caller x.0 ≡ b → nat_eq other x.0 ≡ c
         → lookup (nat_eq other) (cond (not b) (x ∷ filter (λ w. not (nat_eq caller w.0)) ws) (filter (λ w. not (nat_eq caller w.0)) ws)) ≡ Some place
         → (lookup (nat_eq other) (filter (λ w. not (nat_eq caller w.0)) ws) ≡ Some place → (nat_eq caller other ≡ false) × (lookup (nat_eq other) ws ≡ Some place))
@@ -100,7 +101,7 @@ pub own_found : {M : Type 0} (history : List (Entry M)) (caller : ℕ) (ws : Lis
 own_found history caller [] place own found = cc
 own_found history caller (x ∷ ws) place own found =
     by (nat_eq caller x.0) refl found (All-head (λ w. caller_at history w.1 ≡ Some w.0) x ws own)
-        (own_found history caller ws place (All-tail (λ w. caller_at history w.1 ≡ Some w.0) x ws own))
+    (own_found history caller ws place (All-tail (λ w. caller_at history w.1 ≡ Some w.0) x ws own))
   where
     by : (b : Bool) → nat_eq caller x.0 ≡ b → cond b (Some x.1) (lookup (nat_eq caller) ws) ≡ Some place → caller_at history x.1 ≡ Some x.0
         → (lookup (nat_eq caller) ws ≡ Some place → caller_at history place ≡ Some caller) → caller_at history place ≡ Some caller
@@ -127,6 +128,7 @@ each_found (w ∷ ws) distinct = ((w.0, rw (eq-eqb w.0 w.0 refl) refl), later (v
             let none : lookup (nat_eq caller) ws ≡ None = rw (eqb-true caller w.0 is) (not_found w.0 ws distinct.0) in
             let both : None ≡ Some place = sym none ∙ found in cc
         by false is = rw is found
+
     later : (places : List ℕ) → AllByRecursion (λ place. (caller : ℕ) × (lookup (nat_eq caller) ws ≡ Some place)) places
         → AllByRecursion (λ place. (caller : ℕ) × (lookup (nat_eq caller) (w ∷ ws) ≡ Some place)) places
     later [] all = tt
@@ -137,12 +139,14 @@ pub places_distinct : {M : Type 0} (history : List (Entry M)) (ws : List (ℕ ×
     → IsDistinct nat_eq (values_of ws)
 unfolding IsDistinct
 places_distinct history [] distinct own = tt
-places_distinct history (w ∷ ws) distinct own =
-    ( apart ws distinct.0 (All-tail (λ w. caller_at history w.1 ≡ Some w.0) w ws own)
-    , places_distinct history ws distinct.1 (All-tail (λ w. caller_at history w.1 ≡ Some w.0) w ws own))
+places_distinct history (w ∷ ws) distinct own = (
+  apart ws distinct.0 (All-tail (λ w. caller_at history w.1 ≡ Some w.0) w ws own),
+  places_distinct history ws distinct.1 (All-tail (λ w. caller_at history w.1 ≡ Some w.0) w ws own),
+)
   where
     mine : caller_at history w.1 ≡ Some w.0
     mine = All-head (λ w. caller_at history w.1 ≡ Some w.0) w ws own
+
     differs : (x : ℕ × ℕ) → nat_eq w.0 x.0 ≡ false → caller_at history x.1 ≡ Some x.0 → (b : Bool) → nat_eq w.1 x.1 ≡ b → nat_eq w.1 x.1 ≡ false
     differs x other its true is =
         let here : caller_at history x.1 ≡ Some w.0 = rw (← eqb-true w.1 x.1 is) mine in
@@ -150,12 +154,14 @@ places_distinct history (w ∷ ws) distinct own =
         let e : w.0 ≡ x.0 = cc in
         absurd (true≢false (sym (eq-eqb w.0 x.0 e) ∙ other))
     differs x other its false is = is
+
     apart : (xs : List (ℕ × ℕ)) → AllByRecursion (λ key. nat_eq w.0 key ≡ false) (keys_of xs) → All (λ w. caller_at history w.1 ≡ Some w.0) xs
         → AllByRecursion (λ place. nat_eq w.1 place ≡ false) (values_of xs)
     apart [] others own = tt
-    apart (x ∷ xs) others own =
-        ( differs x others.0 (All-head (λ w. caller_at history w.1 ≡ Some w.0) x xs own) (nat_eq w.1 x.1) refl
-        , apart xs others.1 (All-tail (λ w. caller_at history w.1 ≡ Some w.0) x xs own))
+    apart (x ∷ xs) others own = (
+      differs x others.0 (All-head (λ w. caller_at history w.1 ≡ Some w.0) x xs own) (nat_eq w.1 x.1) refl,
+      apart xs others.1 (All-tail (λ w. caller_at history w.1 ≡ Some w.0) x xs own),
+    )
 
 -- a fact on each that follows from another
 pub all_weaker : {X : Type 0} (P Q : X → Type 0) → ((x : X) → P x → Q x) → (xs : List X) → AllByRecursion P xs → AllByRecursion Q xs
@@ -171,9 +177,11 @@ keys_push caller place (w ∷ ws) none distinct = by (nat_eq caller w.0) refl no
     swapped : nat_eq caller w.0 ≡ false → (b : Bool) → nat_eq w.0 caller ≡ b → nat_eq w.0 caller ≡ false
     swapped is true its = absurd (true≢false (sym (eq-eqb caller w.0 (sym (eqb-true w.0 caller its))) ∙ is))
     swapped is false its = its
+
     more : (xs : List (ℕ × ℕ)) → nat_eq w.0 caller ≡ false → AllByRecursion (λ key. nat_eq w.0 key ≡ false) (keys_of xs) → AllByRecursion (λ key. nat_eq w.0 key ≡ false) (keys_of (xs ++ (caller, place) ∷ []))
     more [] apart all = (apart, tt)
     more (x ∷ xs) apart all = (all.0, more xs apart all.1)
+
     by : (b : Bool) → nat_eq caller w.0 ≡ b → cond b (Some w.1) (lookup (nat_eq caller) ws) ≡ None
         → (lookup (nat_eq caller) ws ≡ None → IsDistinct nat_eq (keys_of (ws ++ (caller, place) ∷ []))) → IsDistinct nat_eq (keys_of ((w ∷ ws) ++ (caller, place) ∷ []))
     by true is here rest = cc
@@ -190,6 +198,7 @@ keys_filter test (w ∷ ws) distinct = by (test w) (keys_filter test ws distinct
     fewer (x ∷ xs) all =
         elim (test x) as (λ b. AllByRecursion (λ key. nat_eq w.0 key ≡ false) (keys_of (cond b (x ∷ filter test xs) (filter test xs))))
         [ true ↦ (all.0, fewer xs all.1) | false ↦ fewer xs all.1 ]
+
     by : (b : Bool) → IsDistinct nat_eq (keys_of (filter test ws)) → IsDistinct nat_eq (keys_of (cond b (w ∷ filter test ws) (filter test ws)))
     by true rest = (fewer ws distinct.0, rest)
     by false rest = rest

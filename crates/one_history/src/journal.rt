@@ -81,7 +81,12 @@ impl<O: Object> Journal<O> {
     ///
     /// Refuses with `Full` exactly at `JOURNAL_MAX` entries. After a refusal the journal is as it was.
     #[tactic(auto, using(crate::proofs::Folds::fold_push))]
-    pub fn commit(&mut self, caller: u32, moment: u64, command: O::Command) -> Result<Told<O::Reply>, JournalRefusal>
+    pub fn commit(
+        &mut self,
+        caller: u32,
+        moment: u64,
+        command: O::Command,
+    ) -> Result<Told<O::Reply>, JournalRefusal>
     where
         O::Command: Drop,
         requires { O.good command }

@@ -83,7 +83,12 @@ impl<O: Object> Machine<O> {
     ///
     /// Refuses first with `Unanswered`, exactly where the caller waits for an answer, then with `Full`, exactly at
     /// `JOURNAL_MAX` entries. After a refusal the machine is as it was.
-    pub fn event(&mut self, caller: u32, moment: u64, command: O::Command) -> Result<u64, MachineRefusal>
+    pub fn event(
+        &mut self,
+        caller: u32,
+        moment: u64,
+        command: O::Command,
+    ) -> Result<u64, MachineRefusal>
     where
         O::Command: Drop,
         requires { O.good command }

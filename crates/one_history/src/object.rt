@@ -25,7 +25,13 @@ pub trait Object: Sized {
         ensures { IfOk result (λ o. o ≡ start) };
 
     /// Does a command, in the name of a caller and at a moment. Where memory is wanting, nothing has changed.
-    fn step(&mut self, alloc: Global, caller: u32, moment: u64, command: &Self::Command) -> Result<Self::Reply, NoMemory>
+    fn step(
+        &mut self,
+        alloc: Global,
+        caller: u32,
+        moment: u64,
+        command: &Self::Command,
+    ) -> Result<Self::Reply, NoMemory>
         requires { good command.now }
         ensures next { IfOk result (λ _. self.new ≡ next self.old caller moment command.now) }
         ensures reply { IfOk result (λ r. r ≡ reply self.old caller moment command.now) }

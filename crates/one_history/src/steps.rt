@@ -9,9 +9,15 @@ use std::alloc::Global;
 #[derive(Clone, Copy, Debug, Drop, PartialEq, Eq)]
 pub enum Step<M> {
     /// A caller's event, at a moment.
-    Event { caller: u32, moment: u64, command: M },
+    Event {
+        caller: u32,
+        moment: u64,
+        command: M,
+    },
     /// A caller takes the answer to its event.
-    Answer { caller: u32 },
+    Answer {
+        caller: u32,
+    },
 }
 
 /// What the caller of a step is told.

@@ -35,7 +35,13 @@ impl Object for Sum {
         Ok(Sum { total: 0 })
     }
 
-    fn step(&mut self, _alloc: Global, caller: u32, moment: u64, amount: &u64) -> Result<Receipt, NoMemory> {
+    fn step(
+        &mut self,
+        _alloc: Global,
+        caller: u32,
+        moment: u64,
+        amount: &u64,
+    ) -> Result<Receipt, NoMemory> {
         self.total = self.total.wrapping_add(*amount);
         Ok(Receipt {
             caller,
@@ -66,7 +72,13 @@ impl Object for Nothing {
         Ok(Nothing)
     }
 
-    fn step(&mut self, _alloc: Global, _caller: u32, _moment: u64, command: &()) -> Result<(), NoMemory> {
+    fn step(
+        &mut self,
+        _alloc: Global,
+        _caller: u32,
+        _moment: u64,
+        command: &(),
+    ) -> Result<(), NoMemory> {
         Ok(*command)
     }
 }
@@ -85,7 +97,10 @@ fn each_caller_is_told_its_own(rt: HostRuntime) -> Result<(), Fail> {
     let mut machine: Machine<Sum> = Machine::open(rt.alloc())?;
     assert_eq!(rt; machine.event(5, 100, 20), Ok(0));
     assert_eq!(rt; machine.event(6, 101, 3), Ok(1));
-    assert_eq!(rt; machine.event(5, 102, 7), Err(MachineRefusal::Unanswered { at: 0 }));
+    assert_eq!(rt;
+        machine.event(5, 102, 7),
+        Err(MachineRefusal::Unanswered { at: 0 })
+    );
     assert_eq!(rt; machine.answer(6), told_sum(6, 101, 23, 1));
     assert_eq!(rt; machine.answer(5), told_sum(5, 100, 20, 0));
     assert_eq!(rt; machine.answer(5), None);
@@ -102,10 +117,25 @@ fn a_full_history_takes_no_more(rt: HostRuntime) -> Result<(), Fail> {
         assert_eq!(rt; machine.answer(1), Some(Told { at, reply: () }));
     }
     assert_eq!(rt; machine.event(1, 0, ()), Ok(4_194_303));
-    assert_eq!(rt; machine.event(1, 0, ()), Err(MachineRefusal::Unanswered { at: 4_194_303 }));
-    assert_eq!(rt; machine.event(2, 0, ()), Err(MachineRefusal::Full { length: 4_194_304 }));
-    assert_eq!(rt; machine.answer(1), Some(Told { at: 4_194_303, reply: () }));
-    assert_eq!(rt; machine.event(1, 0, ()), Err(MachineRefusal::Full { length: 4_194_304 }));
+    assert_eq!(rt;
+        machine.event(1, 0, ()),
+        Err(MachineRefusal::Unanswered { at: 4_194_303 })
+    );
+    assert_eq!(rt;
+        machine.event(2, 0, ()),
+        Err(MachineRefusal::Full { length: 4_194_304 })
+    );
+    assert_eq!(rt;
+        machine.answer(1),
+        Some(Told {
+            at: 4_194_303,
+            reply: ()
+        })
+    );
+    assert_eq!(rt;
+        machine.event(1, 0, ()),
+        Err(MachineRefusal::Full { length: 4_194_304 })
+    );
     assert_eq!(rt; machine.journal().entries().len(), 4_194_304);
     Ok(())
 }
@@ -129,7 +159,12 @@ impl Replay {
         }
     }
 
-    fn event(&mut self, caller: u32, moment: u64, command: u64) -> Result<Outcome<Receipt>, NoMemory> {
+    fn event(
+        &mut self,
+        caller: u32,
+        moment: u64,
+        command: u64,
+    ) -> Result<Outcome<Receipt>, NoMemory> {
         if let Some((_, at)) = self.waiting.iter().find(|w| w.0 == caller) {
             return Ok(Outcome::Placed(Err(MachineRefusal::Unanswered { at: *at })));
         }
@@ -151,7 +186,12 @@ impl Replay {
         for earlier in self.entries.iter().take(at as usize) {
             total = total.wrapping_add(earlier.command);
         }
-        told_sum(entry.caller, entry.moment, total.wrapping_add(entry.command), at)
+        told_sum(
+            entry.caller,
+            entry.moment,
+            total.wrapping_add(entry.command),
+            at,
+        )
     }
 }
 

@@ -15,8 +15,8 @@ returns-in_err-told-clause-refused g c =
 pub invariant_of-self-2 : goal.invariant_of-self-2
 invariant_of-self-2 g c =
     machine_event _ _ _ _ _ _ _ _ _ _ _ c.self.invariant c.in_ok-told.ensures.at c.in_ok-told.ensures.reply c.in_ok-told.ensures.appended
-        (kept_push _ c.reserve.new.self _ _ _ _ c.in_ok-reserve.ensures.entries c.in_default.ensures.value c.in-None.ensures c.insert.ensures.entries)
-        c.insert.ensures.unique
+    (kept_push _ c.reserve.new.self _ _ _ _ c.in_ok-reserve.ensures.entries c.in_default.ensures.value c.in-None.ensures c.insert.ensures.entries)
+    c.insert.ensures.unique
 
 pub returns-clause-free : goal.returns-clause-free
 returns-clause-free g c = found_place _ _ _ c.self.view_is _ None c.in_default.ensures.value
@@ -24,4 +24,4 @@ returns-clause-free g c = found_place _ _ _ c.self.view_is _ None c.in_default.e
 pub returns-clause-committed : goal.returns-clause-committed
 returns-clause-committed g c =
     shows_event _ _ _ c.self.view_is _ _ _ _ _ _ c.in_ok-told.ensures.at c.in_ok-told.ensures.appended
-        (kept_push _ c.reserve.new.self _ _ _ _ c.in_ok-reserve.ensures.entries c.in_default.ensures.value c.in-None.ensures c.insert.ensures.entries)
+    (kept_push _ c.reserve.new.self _ _ _ _ c.in_ok-reserve.ensures.entries c.in_default.ensures.value c.in-None.ensures c.insert.ensures.entries)
