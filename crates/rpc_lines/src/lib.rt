@@ -6,6 +6,8 @@ mod first;
 mod read;
 mod reply;
 mod request;
+#[cfg(test)]
+mod tests;
 
 pub use first::{FirstFault, layer_of, read_first};
 pub use read::read_request;
