@@ -1,6 +1,6 @@
 -- The line that a reply is written as.
 use Rattle.std.specs.Prelude.{List, ℕ, ℤ, [], ◌∷◌, ◌++◌, codes}
-use Rattle.serde_json.specs.Data.{Data, null, number, string, object, unsigned, Members, no_members, member}
+use Rattle.serde_json.specs.Data.{Data, null, number, string, object, unsigned, no_members, member}
 use Rattle.serde_json.specs.Find.{of_integer}
 use Rattle.serde_json.specs.View.{view}
 use Rattle.serde_json.specs.Written.{compact_text}
