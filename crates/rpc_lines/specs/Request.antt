@@ -13,7 +13,7 @@ use Rattle.rpc_lines.specs.declared.request.Id.TheVariants.{Null, Unsigned, Sign
 unfoldable pub value_of : List ℕ → Option Data
 value_of line = if is_utf8 line then read line else None
 
--- The id that the member `id` is: none of a right kind is null.
+-- The id that the member `id` is, where it is of a right kind: absent, it is null.
 abbrev pub id_of : Option Data → Option Id
 id_of None = Some Null
 id_of (Some null) = Some Null
@@ -22,7 +22,7 @@ id_of (Some (number (unsigned n))) = Some (Unsigned n)
 id_of (Some (number (negative z))) = Some (Signed z)
 id_of (Some _) = None
 
--- The parameters that the member `params` is: absent or null, they are an empty object.
+-- The parameters that the member `params` is, where it is of a right kind: absent or null, they are an empty object.
 abbrev pub params_of : Option Data → Option Data
 params_of None = Some (object no_members)
 params_of (Some null) = Some (object no_members)

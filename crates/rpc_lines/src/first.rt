@@ -1,4 +1,4 @@
-ghost use Rattle.std.specs.Prelude.{◌≡◌, codes, is_some, IfOk, IfErr, IsErrOf, IsSome, None, option_map};
+ghost use Rattle.std.specs.Prelude.{◌≡◌, codes, is_some, IfOk, IfErr, IsSome, None, option_map};
 ghost use Rattle.std.specs.Option.{option_zip};
 ghost use Rattle.serde_json.specs.View.{view};
 ghost use Rattle.rpc_lines.specs.Request.{request_of, asks};

@@ -39,13 +39,12 @@ fn read_value(alloc: Global, line: &[u8]) -> Result<Option<Value>, NoMemory>
     }
 }
 
-fn request_in(alloc: Global, members: Map<String, Value>) -> Result<Request, RpcFault>
+fn request_in(alloc: Global, mut members: Map<String, Value>) -> Result<Request, RpcFault>
     ensures ok { IfOk result
         (λ asked. asked_in (members_view members.entries)
         ≡ asks asked.id asked.method (view asked.params)) }
     ensures err { IfErr result (λ fault. IsFaultOf fault (asked_in (members_view members.entries))) }
 {
-    let mut members = members;
     let Some(id) = id_from(take(&mut members, "id")) else {
         return Err(RpcFault::NotRequest { id: Id::Null });
     };

@@ -52,7 +52,7 @@ pub struct Reply {
 
 /// The line of a reply, compact and with its LF: `{"id":ID,"jsonrpc":"2.0","result":R}`, or for an error
 /// `{"error":{"code":C,"data":T,"message":M},"id":ID,"jsonrpc":"2.0"}`. The keys of every object ascend by their bytes.
-/// The value must hold no number with a point or an exponent.
+/// The values of the body hold no floating-point number.
 pub fn write_reply(alloc: Global, reply: &Reply) -> Result<Vec<u8>, NoMemory>
     requires { has_float (value_in (content_of reply.now.body)) ≡ false }
     ensures { IfOk result
