@@ -1,0 +1,137 @@
+use super::*;
+use plan_base::{Dir, NoMemory, NodeId};
+use std::alloc::Global;
+use std::thread::{self, Threads};
+
+const NODE_A: &str = "02aaaaaaaaaaaaaaaaaaaaaaaaaaaaaaaaaaaaaaaaaaaaaaaaaaaaaaaaaaaaaaaa";
+
+const NODE_D: &str = "02dddddddddddddddddddddddddddddddddddddddddddddddddddddddddddddddd";
+
+fn fault_of(alloc: Global, text: &str) -> Option<NameFault> {
+    Name::read(alloc, text).err()
+}
+
+#[test]
+fn names(rt: HostRuntime) {
+    let alloc = rt.alloc();
+    let long = "0123456789012345678901234567890123456789012345678901234567890123";
+    for text in ["x", "auto", "automatic", "Auto.x", "x.auto.", long] {
+        assert!(rt;
+            Name::read(alloc, text).is_ok_and(|name| name.text() == text),
+            "{text}"
+        );
+    }
+    for (text, fault) in [
+        ("", NameFault::Length),
+        (
+            "01234567890123456789012345678901234567890123456789012345678901234",
+            NameFault::Length,
+        ),
+        (
+            "auto.01234567890123456789012345678901234567890123456789012345678901234",
+            NameFault::Length,
+        ),
+        ("auto.", NameFault::Auto),
+        ("auto.localchans", NameFault::Auto),
+    ] {
+        assert!(rt; fault_of(alloc, text) == Some(fault), "{text}");
+    }
+    let name = Name::read(alloc, "x");
+    assert!(rt; name.is_ok_and(|name| name.copy(alloc).is_ok_and(|copy| copy == name)));
+}
+
+// Entries in each list, after both kinds of replacement. The ends differ.
+fn filled(alloc: Global, dir: Dir, node: NodeId, other: NodeId) -> Result<Layer, NoMemory> {
+    if node == other {
+        return Err(NoMemory);
+    }
+    let mut layer = Layer::new(alloc);
+    layer.push_created(Created {
+        scid: dir.scid,
+        source: node,
+        destination: other,
+        capacity: 1000,
+    })?;
+    let change = &Update {
+        dir,
+        enabled: Some(true),
+        htlc_min: None,
+        htlc_max: None,
+        base: None,
+        ppm: None,
+        delay: None,
+    };
+    layer.push_update(*change)?;
+    layer.set_update(
+        0,
+        Update {
+            base: Some(7),
+            ..*change
+        },
+    )?;
+    layer.push_constraint(Constraint {
+        dir,
+        bound: Bound::Min,
+        amount: 7,
+        moment: 100,
+    })?;
+    layer.push_constraint(Constraint {
+        dir,
+        bound: Bound::Max,
+        amount: 9,
+        moment: 101,
+    })?;
+    layer.push_bias(Bias { dir, bias: 5 })?;
+    layer.set_bias(0, Bias { dir, bias: 6 })?;
+    layer.push_disabled(node)?;
+    Ok(layer)
+}
+
+fn is_as_filled(layer: &Layer, node: NodeId) -> bool {
+    layer.created().len() == 1
+        && layer.updates().len() == 1
+        && layer.updates()[0].base == Some(7)
+        && layer.biases().len() == 1
+        && layer.biases()[0].bias == 6
+        && layer.disabled().len() == 1
+        && layer.disabled()[0] == node
+}
+
+// A layer goes to another thread by value and by reference.
+fn entries_elsewhere<R: Threads + Sync>(rt: &R, layer: &Layer, moved: Layer) -> (usize, usize) {
+    thread::join(rt, || layer.entries(), move || moved.entries())
+}
+
+#[test]
+fn five_lists(rt: HostRuntime) {
+    let alloc = rt.alloc();
+    let Ok(dir) = Dir::read("100x3x0/0") else {
+        return assert!(rt; false);
+    };
+    let (Ok(node), Ok(other)) = (NodeId::read(NODE_A), NodeId::read(NODE_D)) else {
+        return assert!(rt; false);
+    };
+    let Ok(mut layer) = filled(alloc, dir, node, other) else {
+        return assert!(rt; false);
+    };
+    assert!(rt;
+        is_as_filled(&layer, node) && layer.constraints().len() == 2 && layer.entries() == 6
+    );
+    let Ok(copy) = layer.copy() else {
+        return assert!(rt; false);
+    };
+    assert!(rt;
+        layer.drop_before(100) == 0 && layer.drop_before(101) == 1 && layer.drop_before(101) == 0
+    );
+    assert!(rt;
+        is_as_filled(&layer, node)
+            && layer.constraints().len() == 1
+            && layer.constraints()[0].amount == 9
+    );
+    assert!(rt;
+        is_as_filled(&copy, node)
+            && copy.constraints().len() == 2
+            && copy.constraints()[0].amount == 7
+    );
+    assert!(rt; entries_elsewhere(&rt, &layer, copy) == (5, 6));
+}
