@@ -8,8 +8,10 @@ use std::alloc::Global;
 /// What a command does is a function of the value, the caller's number, the moment and the command: `next` is the value
 /// after it, and `reply` what its caller is told. A journal keeps the commands, so each of them has to be `good`.
 pub trait Object: Sized {
+    /// What a caller asks for.
     type Command;
 
+    /// What the caller is told.
     type Reply;
 
     ghost start: { Self };

@@ -64,6 +64,7 @@ where
     ensures err { OnErr result (machine.new ≡ machine.old) }
 {
     let mut outcomes = Vec::with_capacity(alloc, steps.len())?;
+    // Its contract says that each caller that waits has an entry of its own, on which the answers rest.
     let _history = machine.journal();
     for step in steps {
         outcomes.push_reserved(take_step(machine, step));
