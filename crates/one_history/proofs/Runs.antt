@@ -28,7 +28,7 @@ all_taken : {X : Type 0} (taken rest all : List X) → length rest ≡ 0 → tak
 all_taken taken [] all none whole = sym (append-nil taken) ∙ whole
 all_taken taken (x ∷ rest) all none whole = absurd (omega (arith, none))
 
--- a place for whose event somebody waits, and one that is still to come
+-- a place for whose event somebody waits
 abbrev Waits : {M : Type 0} → Core M → ℕ → Type 0
 Waits core place = (caller : ℕ) × (place_of caller core ≡ Some place)
 

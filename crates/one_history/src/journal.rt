@@ -80,7 +80,6 @@ impl<O: Object> Journal<O> {
     /// Appends an entry: the object takes the step, and the caller is told the entry's place and its reply.
     ///
     /// Refuses with `Full` exactly at `JOURNAL_MAX` entries. After a refusal the journal is as it was.
-    #[tactic(auto, using(crate::proofs::Folds::fold_push))]
     pub fn commit(
         &mut self,
         caller: u32,
