@@ -71,7 +71,7 @@ impl Layer {
         &self.created
     }
 
-    /// The updates, at most one for a direction where they come by `layer_ops`.
+    /// The updates, in the layer's own order.
     pub fn updates(&self) -> &[Update]
         ensures list { result.now ≡ self.now.updates }
         ensures good { All IsGoodUpdate self.now.updates }
@@ -87,7 +87,7 @@ impl Layer {
         &self.constraints
     }
 
-    /// The biases.
+    /// The biases, in the layer's own order.
     pub fn biases(&self) -> &[Bias]
         ensures list { result.now ≡ self.now.biases }
         ensures good { All IsGoodBias self.now.biases }
@@ -95,7 +95,7 @@ impl Layer {
         &self.biases
     }
 
-    /// The disabled nodes.
+    /// The disabled nodes, in the layer's own order.
     pub fn disabled(&self) -> &[NodeId]
         ensures { result.now ≡ self.now.disabled }
     {
@@ -113,7 +113,8 @@ impl Layer {
             + self.biases.len()
             + self.disabled.len()
     }
-    /// Adds a created channel at the end. An `Err` leaves the layer as it was, here and below.
+
+    /// Adds a created channel at the end. An `Err` leaves the layer as it was, here and in the calls below.
     pub fn push_created(&mut self, channel: Created) -> Result<(), NoMemory>
         requires good { IsGoodCreated channel }
         requires room { entries_of self.old < ENTRIES_MAX }
