@@ -1,0 +1,151 @@
+ghost use Rattle.std.specs.Prelude.{◌≡◌, ◌+◌, ◌<◌, length, true, position, IfSome, OnOk, OnErr};
+ghost use Rattle.layer.specs.Created.{IsGoodCreated};
+ghost use Rattle.layer.specs.Update.{IsGoodUpdate};
+ghost use Rattle.layer.specs.Constraint.{IsGoodConstraint};
+ghost use Rattle.layer.specs.Bias.{IsGoodBias};
+ghost use Rattle.layer.specs.Layer.{entries_of};
+ghost use Rattle.layer_ops.specs.Changes.{same_dir, has_created, has_disabled, merged, with_created, with_update, with_constraint, with_bias, with_disabled, aged};
+ghost use Rattle.layer_ops.specs.LayerRefusal.{IsRefusedFor, refusal_of_adding, refusal_of_create, refusal_of_update, refusal_of_inform, refusal_of_bias, refusal_of_disable};
+
+use crate::LayerRefusal;
+use layer::{Bias, Constraint, Created, ENTRIES_MAX, Layer, Update};
+use plan_base::{Dir, NodeId, Scid};
+
+/// Creates a channel: adds it at the end. Refused where the layer has created it already, else where the layer is full.
+/// Any refusal leaves the layer as it was, here and below.
+pub fn create_channel(layer: &mut Layer, channel: Created) -> Result<(), LayerRefusal>
+    requires { IsGoodCreated channel }
+    ensures ok { OnOk result (layer.new ≡ with_created layer.old channel) }
+    ensures err { OnErr result (layer.new ≡ layer.old) }
+    ensures refusal { IsRefusedFor (refusal_of_create layer.old channel) result }
+{
+    if creates(layer, channel.scid) {
+        return Err(LayerRefusal::ChannelExists { scid: channel.scid });
+    }
+    check_room(layer)?;
+    layer.push_created(channel)?;
+    Ok(())
+}
+
+fn creates(layer: &Layer, scid: Scid) -> bool
+    ensures { result ≡ has_created layer.now scid }
+{
+    layer.created().iter().any(|channel| channel.scid == scid)
+}
+
+fn check_room(layer: &Layer) -> Result<(), LayerRefusal>
+    ensures refusal { IsRefusedFor (refusal_of_adding true layer.now) result }
+    ensures room { OnOk result (entries_of layer.now < ENTRIES_MAX) }
+{
+    let entries = layer.entries();
+    if entries == ENTRIES_MAX {
+        return Err(LayerRefusal::LayerFull { entries });
+    }
+    Ok(())
+}
+
+/// Changes the given fields of a direction's update in its place, or adds an update. An update without a field adds or
+/// keeps one.
+pub fn update(layer: &mut Layer, change: Update) -> Result<(), LayerRefusal>
+    requires { IsGoodUpdate change }
+    ensures ok { OnOk result (layer.new ≡ with_update layer.old change) }
+    ensures err { OnErr result (layer.new ≡ layer.old) }
+    ensures refusal { IsRefusedFor (refusal_of_update layer.old change.dir) result }
+{
+    let Some(place) = place_of_update(layer.updates(), change.dir) else {
+        check_room(layer)?;
+        layer.push_update(change)?;
+        return Ok(());
+    };
+    let merged = merge(&layer.updates()[place], &change);
+    layer.set_update(place, merged)?;
+    Ok(())
+}
+
+fn place_of_update(updates: &[Update], dir: Dir) -> Option<usize>
+    ensures place { result ≡ position (λ change. same_dir change.dir dir) updates.now }
+    ensures within { IfSome result (λ place. place < length updates.now) }
+{
+    updates.iter().position(|change| change.dir == dir)
+}
+
+fn merge(old: &Update, change: &Update) -> Update
+    requires old { IsGoodUpdate old.now }
+    requires change { IsGoodUpdate change.now }
+    ensures value { result ≡ merged old.now change.now }
+    ensures good { IsGoodUpdate result }
+{
+    Update {
+        dir: old.dir,
+        enabled: change.enabled.or(old.enabled),
+        htlc_min: change.htlc_min.or(old.htlc_min),
+        htlc_max: change.htlc_max.or(old.htlc_max),
+        base: change.base.or(old.base),
+        ppm: change.ppm.or(old.ppm),
+        delay: change.delay.or(old.delay),
+    }
+}
+
+/// Adds what was learnt of a direction at the end.
+pub fn inform(layer: &mut Layer, constraint: Constraint) -> Result<(), LayerRefusal>
+    requires { IsGoodConstraint constraint }
+    ensures ok { OnOk result (layer.new ≡ with_constraint layer.old constraint) }
+    ensures err { OnErr result (layer.new ≡ layer.old) }
+    ensures refusal { IsRefusedFor (refusal_of_inform layer.old) result }
+{
+    check_room(layer)?;
+    layer.push_constraint(constraint)?;
+    Ok(())
+}
+
+/// Puts a bias in the place of the direction's own, or adds it. A bias of 0 is kept like any other.
+pub fn bias(layer: &mut Layer, bias: Bias) -> Result<(), LayerRefusal>
+    requires { IsGoodBias bias }
+    ensures ok { OnOk result (layer.new ≡ with_bias layer.old bias) }
+    ensures err { OnErr result (layer.new ≡ layer.old) }
+    ensures refusal { IsRefusedFor (refusal_of_bias layer.old bias.dir) result }
+{
+    let Some(place) = place_of_bias(layer.biases(), bias.dir) else {
+        check_room(layer)?;
+        layer.push_bias(bias)?;
+        return Ok(());
+    };
+    layer.set_bias(place, bias)?;
+    Ok(())
+}
+
+fn place_of_bias(biases: &[Bias], dir: Dir) -> Option<usize>
+    ensures place { result ≡ position (λ bias. same_dir bias.dir dir) biases.now }
+    ensures within { IfSome result (λ place. place < length biases.now) }
+{
+    biases.iter().position(|bias| bias.dir == dir)
+}
+
+/// Disables a node: adds it at the end, or changes nothing where it is there.
+pub fn disable(layer: &mut Layer, node: NodeId) -> Result<(), LayerRefusal>
+    ensures ok { OnOk result (layer.new ≡ with_disabled layer.old node) }
+    ensures err { OnErr result (layer.new ≡ layer.old) }
+    ensures refusal { IsRefusedFor (refusal_of_disable layer.old node) result }
+{
+    if disables(layer, node) {
+        return Ok(());
+    }
+    check_room(layer)?;
+    layer.push_disabled(node)?;
+    Ok(())
+}
+
+fn disables(layer: &Layer, node: NodeId) -> bool
+    ensures { result ≡ has_disabled layer.now node }
+{
+    layer.disabled().contains(&node)
+}
+
+/// Removes the constraints that were learnt before the cutoff, a moment in seconds, and tells how many went. The others
+/// keep their order. No memory is taken.
+pub fn age(layer: &mut Layer, cutoff: u64) -> u32
+    ensures kept { layer.new ≡ aged layer.old cutoff }
+    ensures count { result + length layer.new.constraints ≡ length layer.old.constraints }
+{
+    layer.drop_before(cutoff)
+}
