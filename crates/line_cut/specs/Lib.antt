@@ -1,1 +1,7 @@
+pub mod FirstLen
+pub mod Held
+pub mod Layout
 pub mod Lines
+pub mod Steps
+pub mod WholeLines
+pub mod Window
