@@ -1,0 +1,36 @@
+-- Which commands are good: those that a request can be read as. Ids of nodes, directions and the fields of fees and
+-- delays keep their ranges by their types.
+use Rattle.std.specs.Prelude.{◌≡◌, ◌≤◌, ℕ, List, true, IfSome}
+use Rattle.plan_base.specs.Dir.{Direction}
+use Rattle.plan_base.specs.declared.amount.TheConstants.{MAX}
+use Rattle.layer.specs.Name.{is_good_name}
+use Rattle.layer.specs.Update.{IsGoodUpdate}
+use Rattle.layer.specs.Bias.{IsGoodBias}
+use Rattle.askrene_command.specs.declared.command.Inform.{Inform}
+use Rattle.askrene_command.specs.declared.command.Inform.TheVariants.{Constrained, Unconstrained, Succeeded}
+use Rattle.askrene_command.specs.declared.command.Command.{Command}
+use Rattle.askrene_command.specs.declared.command.Command.TheVariants.{CreateLayer, RemoveLayer, ListLayers, UpdateChannel, InformChannel, BiasChannel, DisableNode, Age}
+
+-- a layer's name
+abbrev pub IsGoodName : List ℕ → Type 0
+IsGoodName layer = is_good_name layer ≡ true
+
+-- the least amount of an inform: that 0 msat could not pass says nothing that can be
+abbrev pub least_of : Inform → ℕ
+least_of Constrained = 1
+least_of Unconstrained = 0
+least_of Succeeded = 0
+
+pub record IsGoodInform (amount : ℕ) (kind : Inform) : Type 0 where
+  pub least : least_of kind ≤ amount
+  pub most : amount ≤ MAX
+
+abbrev pub IsGoodCommand : Command → Type 0
+IsGoodCommand (CreateLayer layer) = IsGoodName layer
+IsGoodCommand (RemoveLayer layer) = IsGoodName layer
+IsGoodCommand (ListLayers layer) = IfSome layer IsGoodName
+IsGoodCommand (UpdateChannel layer change) = IsGoodName layer × IsGoodUpdate change
+IsGoodCommand (InformChannel layer dir amount kind) = IsGoodName layer × IsGoodInform amount kind
+IsGoodCommand (BiasChannel layer bias) = IsGoodName layer × IsGoodBias bias
+IsGoodCommand (DisableNode layer node) = IsGoodName layer
+IsGoodCommand (Age layer cutoff) = IsGoodName layer
