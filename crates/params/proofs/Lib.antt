@@ -1,0 +1,4 @@
+pub mod Values
+pub mod Chains
+pub mod Least
+pub mod Trips

@@ -1,0 +1,67 @@
+-- The good values of parameters.
+use Rattle.std.specs.Prelude.{ℕ, ◌&&◌, ℤ, pos, negsuc, List, Bool, nat_le, int_le, codes, bytes_eq, Option, Some, None, option_and_then, if◌then◌else◌}
+use Rattle.serde_json.specs.Data.{Data, string}
+use Rattle.serde_json.specs.Find.{as_bool, as_number, as_str, as_u64, as_i64}
+use Rattle.plan_base.specs.Amount.{at_most_max, msat_of}
+use Rattle.plan_base.specs.Dir.{Direction, dir_of}
+use Rattle.plan_base.specs.NodeId.{node_id_of}
+use Rattle.layer.specs.Name.{is_good_name}
+use Rattle.askrene_command.specs.declared.command.Inform.{Inform}
+use Rattle.askrene_command.specs.declared.command.Inform.TheVariants.{Constrained, Unconstrained, Succeeded}
+
+-- a layer: a text of 1 to 64 bytes that doesn't begin with `auto.`
+abbrev pub name_of : List ℕ → Option (List ℕ)
+name_of text = if is_good_name text then Some text else None
+
+unfoldable pub name_value : Data → Option (List ℕ)
+name_value value = option_and_then name_of (as_str value)
+
+-- the text of a node id
+unfoldable pub node_value : Data → Option (List ℕ)
+node_value value = option_and_then node_id_of (as_str value)
+
+-- the text of a direction
+unfoldable pub dir_value : Data → Option Direction
+dir_value value = option_and_then dir_of (as_str value)
+
+-- what was learnt, as one of three words
+abbrev pub inform_of : List ℕ → Option Inform
+inform_of text =
+    if bytes_eq text (codes "constrained") then Some Constrained
+    else if bytes_eq text (codes "unconstrained") then Some Unconstrained
+    else if bytes_eq text (codes "succeeded") then Some Succeeded
+    else None
+
+unfoldable pub inform_value : Data → Option Inform
+inform_value value = option_and_then inform_of (as_str value)
+
+-- true or false
+unfoldable pub flag_value : Data → Option Bool
+flag_value value = as_bool value
+
+-- a whole number that isn't below 0 and fits 64 bits
+unfoldable pub whole_value : Data → Option ℕ
+whole_value value = option_and_then as_u64 (as_number value)
+
+abbrev pub at_most : ℕ → ℕ → Option ℕ
+at_most limit n = if nat_le n limit then Some n else None
+
+-- a whole number of at most a limit
+unfoldable pub whole_up_to : ℕ → Data → Option ℕ
+whole_up_to limit value = option_and_then (at_most limit) (whole_value value)
+
+-- an amount: a whole number, or the text of an amount
+unfoldable pub amount_value : Data → Option ℕ
+amount_value (string text) = msat_of text
+amount_value value = option_and_then at_most_max (whole_value value)
+
+-- an amount of at most a limit
+unfoldable pub amount_up_to : ℕ → Data → Option ℕ
+amount_up_to limit value = option_and_then (at_most limit) (amount_value value)
+
+-- a whole number from -100 to 100
+abbrev pub percent_of : ℤ → Option ℤ
+percent_of z = if int_le (negsuc 99) z && int_le z (pos 100) then Some z else None
+
+unfoldable pub percent_value : Data → Option ℤ
+percent_value value = option_and_then percent_of (option_and_then as_i64 (as_number value))

@@ -1,0 +1,6 @@
+pub mod Parameters
+pub mod Kinds
+pub mod Methods
+pub mod Printed
+pub mod Fault
+pub mod Reading

@@ -1,0 +1,21 @@
+use plan_base::NoMemory;
+
+/// Why parameters make no command. The name is borrowed, so that a refusal takes no memory.
+#[derive(Clone, Copy, Debug)]
+pub enum Fault<'a> {
+    /// The parameter with this name is refused.
+    Param(&'a str),
+    /// The allocator had no memory.
+    NoMemory,
+}
+
+impl<'a> From<NoMemory> for Fault<'a> {
+    ghost use Rattle.std.specs.Prelude.{◌≡◌};
+    ghost use Rattle.params.specs.declared.fault.Fault.TheVariants.{NoMemory};
+
+    ghost from_gives = { λ _ fault. fault ≡ NoMemory };
+
+    fn from(_: NoMemory) -> Self {
+        Fault::NoMemory
+    }
+}
