@@ -1,0 +1,83 @@
+-- No record, no result and no refusal holds a number with a point or an exponent.
+use Rattle.std.proofs.Common.{◌≡◌, ℕ, ℤ, pos, negsuc, List, [], ◌∷◌, Option, Some, None, false, refl}
+use Rattle.serde_json.specs.Data.{Data, Members, boolean}
+use Rattle.serde_json.specs.Find.{of_integer, is_float}
+use Rattle.serde_json.specs.Written.{has_float, members_have_float}
+use Rattle.rpc_lines.specs.Reply.{value_in}
+use Rattle.layer.specs.declared.records.Created.{Created}
+use Rattle.layer.specs.declared.records.Update.{Update}
+use Rattle.layer.specs.declared.records.Constraint.{Constraint}
+use Rattle.layer.specs.declared.records.Bias.{Bias}
+use Rattle.layer.specs.Layer.{LayerLists}
+use Rattle.askrene_command.specs.declared.reply.Listed.{Listed}
+use Rattle.askrene_command.specs.declared.reply.Refusal.{Refusal}
+use Rattle.askrene_command.specs.declared.reply.Refusal.TheVariants.{LayerExists, LayerUnknown, LayersFull, LayerFull}
+use Rattle.askrene_command.specs.declared.reply.EventReply.{EventReply}
+use Rattle.askrene_command.specs.declared.reply.EventReply.TheVariants.{Done, Removed, Informed, Layers, Refused}
+use Rattle.plan_answer.specs.Records.{whole, member_if, list_data, node_data, bias_data, update_data, constraint_data, created_data, layer_data}
+use Rattle.plan_answer.specs.EventReply.{learnt, listed_data, refusal_content, event_content}
+
+list_none : {T : Type 0} (prints : T → Data) → ((x : T) → has_float (prints x) ≡ false) → (list : List T) → has_float (list_data prints list) ≡ false
+list_none prints each [] = refl
+list_none prints each (x ∷ xs) = rw (each x) (list_none prints each xs)
+
+given_none : {T : Type 0} (key : List ℕ) (prints : T → Data) → ((x : T) → has_float (prints x) ≡ false) → (given : Option T) (rest : Members)
+    → members_have_float rest ≡ false → members_have_float (member_if key prints given rest) ≡ false
+given_none key prints each None rest e = e
+given_none key prints each (Some x) rest e = rw (each x) e
+
+integer_none : (n : ℤ) → is_float (of_integer n) ≡ false
+integer_none (pos n) = refl
+integer_none (negsuc n) = refl
+
+bias_none : (bias : Bias) → has_float (bias_data bias) ≡ false
+unfolding bias_data
+bias_none bias = rw (integer_none bias.bias) refl
+
+update_none : (change : Update) → has_float (update_data change) ≡ false
+unfolding update_data
+update_none change =
+    given_none _ whole (λ n. refl) change.delay _
+    (given_none _ boolean (λ b. refl) change.enabled _
+    (given_none _ whole (λ n. refl) change.base _
+    (given_none _ whole (λ n. refl) change.ppm _
+    (given_none _ whole (λ n. refl) change.htlc_max _
+    (given_none _ whole (λ n. refl) change.htlc_min _ refl)))))
+
+constraint_none : (constraint : Constraint) → has_float (constraint_data constraint) ≡ false
+unfolding constraint_data
+constraint_none constraint = refl
+
+created_none : (channel : Created) → has_float (created_data channel) ≡ false
+unfolding created_data
+created_none channel = refl
+
+layer_none : (name : List ℕ) (lists : LayerLists) → has_float (layer_data name lists) ≡ false
+unfolding layer_data
+layer_none name lists =
+    rw (
+      list_none bias_data bias_none lists.biases,
+      list_none update_data update_none lists.updates,
+      list_none constraint_data constraint_none lists.constraints,
+      list_none created_data created_none lists.created,
+      list_none node_data (λ n. refl) lists.disabled,
+    ) refl
+
+listed_none : (listed : Listed) → has_float (listed_data listed) ≡ false
+unfolding listed_data
+listed_none listed = layer_none listed.name listed.layer
+
+refusal_none : (at : ℕ) (refusal : Refusal) → has_float (value_in (refusal_content at refusal)) ≡ false
+unfolding refusal_content
+refusal_none at (LayerExists layer) = refl
+refusal_none at (LayerUnknown layer) = refl
+refusal_none at (LayersFull count) = refl
+refusal_none at (LayerFull layer) = refl
+
+pub event_none : (at : ℕ) (reply : EventReply) → has_float (value_in (event_content at reply)) ≡ false
+unfolding event_content
+event_none at Done = refl
+event_none at (Removed count) = refl
+event_none at (Informed constraint) = rw (list_none constraint_data constraint_none (learnt constraint)) refl
+event_none at (Layers layers) = rw (list_none listed_data listed_none layers) refl
+event_none at (Refused refusal) = refusal_none at refusal

@@ -1,0 +1,40 @@
+-- What is said of the entry at a place in the history: its result, or its refusal.
+use Rattle.std.specs.Prelude.{ℕ, ℤ, List, [], ◌∷◌, pos, Option, Some, None, codes}
+use Rattle.serde_json.specs.Data.{Data, Members, string, object, member, no_members}
+use Rattle.rpc_lines.specs.Reply.{Content, with_result, with_error}
+use Rattle.layer.specs.declared.records.Constraint.{Constraint}
+use Rattle.askrene_command.specs.declared.reply.Listed.{Listed}
+use Rattle.askrene_command.specs.declared.reply.Refusal.{Refusal}
+use Rattle.askrene_command.specs.declared.reply.Refusal.TheVariants.{LayerExists, LayerUnknown, LayersFull, LayerFull}
+use Rattle.askrene_command.specs.declared.reply.EventReply.{EventReply}
+use Rattle.askrene_command.specs.declared.reply.EventReply.TheVariants.{Done, Removed, Informed, Layers, Refused}
+use Rattle.plan_answer.specs.Records.{whole, list_data, constraint_data, layer_data}
+
+-- the place stands first of all keys
+abbrev pub at_place : ℕ → Members → Data
+at_place at rest = object (member (codes "at") (whole at) rest)
+
+abbrev pub learnt : Option Constraint → List Constraint
+learnt None = []
+learnt (Some constraint) = constraint ∷ []
+
+unfoldable pub listed_data : Listed → Data
+listed_data listed = layer_data listed.name listed.layer
+
+-- an error that names a layer
+abbrev pub layer_error : ℤ → List ℕ → ℕ → List ℕ → Content
+layer_error code message at layer = with_error code message (at_place at (member (codes "layer") (string layer) no_members))
+
+unfoldable pub refusal_content : ℕ → Refusal → Content
+refusal_content at (LayerExists layer) = layer_error (pos 301) (codes "layer exists") at layer
+refusal_content at (LayerUnknown layer) = layer_error (pos 302) (codes "unknown layer") at layer
+refusal_content at (LayersFull count) = with_error (pos 304) (codes "too many layers") (at_place at (member (codes "count") (whole count) no_members))
+refusal_content at (LayerFull layer) = layer_error (pos 304) (codes "layer full") at layer
+
+unfoldable pub event_content : ℕ → EventReply → Content
+event_content at Done = with_result (at_place at no_members)
+event_content at (Removed count) = with_result (at_place at (member (codes "num_removed") (whole count) no_members))
+event_content at (Informed constraint) =
+    with_result (at_place at (member (codes "constraints") (list_data constraint_data (learnt constraint)) no_members))
+event_content at (Layers layers) = with_result (at_place at (member (codes "layers") (list_data listed_data layers) no_members))
+event_content at (Refused refusal) = refusal_content at refusal

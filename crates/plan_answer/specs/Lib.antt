@@ -1,0 +1,4 @@
+pub mod Records
+pub mod EventReply
+pub mod Errors
+pub mod Order

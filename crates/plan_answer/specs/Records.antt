@@ -1,0 +1,76 @@
+-- The records of a layer as JSON values. Keys ascend by their bytes; amounts are numbers in msat, ids are texts.
+use Rattle.std.specs.Prelude.{ℕ, List, map, Option, Some, None, codes}
+use Rattle.serde_json.specs.Data.{Data, Members, number, unsigned, string, boolean, array, object, member, no_members}
+use Rattle.serde_json.specs.Find.{of_integer}
+use Rattle.serde_json.specs.View.{items_of}
+use Rattle.plan_base.specs.NodeId.{node_id_text}
+use Rattle.plan_base.specs.Scid.{scid_text}
+use Rattle.plan_base.specs.Dir.{Direction, dir_text}
+use Rattle.layer.specs.Layer.{LayerLists}
+use Rattle.layer.specs.declared.records.Created.{Created}
+use Rattle.layer.specs.declared.records.Update.{Update}
+use Rattle.layer.specs.declared.records.Bound.{Bound}
+use Rattle.layer.specs.declared.records.Bound.TheVariants.{Max, Min}
+use Rattle.layer.specs.declared.records.Constraint.{Constraint}
+use Rattle.layer.specs.declared.records.Bias.{Bias}
+
+abbrev pub whole : ℕ → Data
+whole n = number (unsigned n)
+
+abbrev pub dir_data : Direction → Data
+dir_data dir = string (dir_text dir)
+
+-- a member that is there where its value is given
+abbrev pub member_if : {T : Type 0} → List ℕ → (T → Data) → Option T → Members → Members
+member_if key prints None rest = rest
+member_if key prints (Some value) rest = member key (prints value) rest
+
+unfoldable pub bias_data : Bias → Data
+bias_data bias =
+    object (member (codes "bias") (number (of_integer bias.bias)) (member (codes "short_channel_id_dir") (dir_data bias.dir) no_members))
+
+-- the direction, and the fields that are given
+unfoldable pub update_data : Update → Data
+update_data change =
+    object (member_if (codes "cltv_expiry_delta") whole change.delay
+    (member_if (codes "enabled") boolean change.enabled
+    (member_if (codes "fee_base_msat") whole change.base
+    (member_if (codes "fee_proportional_millionths") whole change.ppm
+    (member_if (codes "htlc_maximum_msat") whole change.htlc_max
+    (member_if (codes "htlc_minimum_msat") whole change.htlc_min
+    (member (codes "short_channel_id_dir") (dir_data change.dir) no_members)))))))
+
+-- the key of a bound comes first
+abbrev pub bound_key : Bound → List ℕ
+bound_key Max = codes "maximum_msat"
+bound_key Min = codes "minimum_msat"
+
+unfoldable pub constraint_data : Constraint → Data
+constraint_data constraint =
+    object (member (bound_key constraint.bound) (whole constraint.amount)
+    (member (codes "short_channel_id_dir") (dir_data constraint.dir)
+    (member (codes "timestamp") (whole constraint.moment) no_members)))
+
+unfoldable pub created_data : Created → Data
+created_data channel =
+    object (member (codes "capacity_msat") (whole channel.capacity)
+    (member (codes "destination") (string (node_id_text channel.destination))
+    (member (codes "short_channel_id") (string (scid_text channel.scid))
+    (member (codes "source") (string (node_id_text channel.source)) no_members))))
+
+abbrev pub node_data : List ℕ → Data
+node_data node = string (node_id_text node)
+
+-- a list of values, in the list's own order
+abbrev pub list_data : {T : Type 0} → (T → Data) → List T → Data
+list_data prints list = array (items_of (map prints list))
+
+-- a layer with its name
+unfoldable pub layer_data : List ℕ → LayerLists → Data
+layer_data name lists =
+    object (member (codes "biases") (list_data bias_data lists.biases)
+    (member (codes "channel_updates") (list_data update_data lists.updates)
+    (member (codes "constraints") (list_data constraint_data lists.constraints)
+    (member (codes "created_channels") (list_data created_data lists.created)
+    (member (codes "disabled_nodes") (list_data node_data lists.disabled)
+    (member (codes "layer") (string name) no_members))))))

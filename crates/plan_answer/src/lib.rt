@@ -1,0 +1,16 @@
+//! What the service says to a command: the body of a reply, made of what the state told.
+#![tactic(auto)]
+
+mod errors;
+mod event;
+mod printed;
+mod records;
+
+pub use errors::{
+    invalid_params, invalid_request, journal_full, line_too_long, method_not_found, out_of_memory,
+    out_of_memory_at, parse_error,
+};
+pub use event::event_body;
+
+#[cfg(test)]
+mod tests;

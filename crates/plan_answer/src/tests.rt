@@ -1,0 +1,288 @@
+ghost use Rattle.std.specs.Prelude.{◌≡◌, false, IfOk};
+ghost use Rattle.serde_json.specs.Written.{has_float};
+ghost use Rattle.rpc_lines.specs.Reply.{content_of, value_in};
+
+use super::*;
+use askrene_command::{EventReply, Listed, Refusal};
+use layer::{Bias, Bound, Constraint, Created, Layer, Name, Update};
+use plan_base::{Dir, Items, NoMemory, NodeId, Scid};
+use rpc_lines::{Body, Id, Reply, write_reply};
+use std::alloc::Global;
+
+// The reply with this body has this line.
+fn says(alloc: Global, body: Result<Body, NoMemory>, text: &str) -> bool
+    requires { IfOk body (λ body. has_float (value_in (content_of body)) ≡ false) }
+{
+    let Ok(body) = body else {
+        return false;
+    };
+    let reply = Reply { id: Id::Null, body };
+    match write_reply(alloc, &reply) {
+        Ok(line) => line.as_slice() == text.as_bytes(),
+        Err(_) => false,
+    }
+}
+
+fn dir() -> Option<Dir> {
+    Dir::read("100x3x0/0").ok()
+}
+
+fn node(text: &str) -> Option<NodeId> {
+    NodeId::read(text).ok()
+}
+
+fn constraint(bound: Bound) -> Option<Constraint> {
+    Some(Constraint {
+        dir: dir()?,
+        bound,
+        amount: 499,
+        moment: 100,
+    })
+}
+
+#[test]
+fn results(rt: HostRuntime) {
+    let alloc = rt.alloc();
+    for (at, reply, text) in [
+        (
+            0,
+            EventReply::Done,
+            "{\"id\":null,\"jsonrpc\":\"2.0\",\"result\":{\"at\":0}}\n",
+        ),
+        (
+            7,
+            EventReply::Removed { count: 3 },
+            "{\"id\":null,\"jsonrpc\":\"2.0\",\"result\":{\"at\":7,\"num_removed\":3}}\n",
+        ),
+        (
+            1,
+            EventReply::Informed { constraint: None },
+            "{\"id\":null,\"jsonrpc\":\"2.0\",\"result\":{\"at\":1,\"constraints\":[]}}\n",
+        ),
+        (
+            2,
+            EventReply::Informed {
+                constraint: constraint(Bound::Max),
+            },
+            "{\"id\":null,\"jsonrpc\":\"2.0\",\"result\":{\"at\":2,\"constraints\":[{\"maximum_msat\":499,\"short_channel_id_dir\":\"100x3x0/0\",\"timestamp\":100}]}}\n",
+        ),
+        (
+            3,
+            EventReply::Informed {
+                constraint: constraint(Bound::Min),
+            },
+            "{\"id\":null,\"jsonrpc\":\"2.0\",\"result\":{\"at\":3,\"constraints\":[{\"minimum_msat\":499,\"short_channel_id_dir\":\"100x3x0/0\",\"timestamp\":100}]}}\n",
+        ),
+        (
+            4,
+            EventReply::Layers(Items::new(alloc)),
+            "{\"id\":null,\"jsonrpc\":\"2.0\",\"result\":{\"at\":4,\"layers\":[]}}\n",
+        ),
+    ] {
+        assert!(rt; says(alloc, event_body(alloc, at, &reply), text), "at {at}");
+    }
+}
+
+const A: &str = "02aaaaaaaaaaaaaaaaaaaaaaaaaaaaaaaaaaaaaaaaaaaaaaaaaaaaaaaaaaaaaaaa";
+
+const B: &str = "02bbbbbbbbbbbbbbbbbbbbbbbbbbbbbbbbbbbbbbbbbbbbbbbbbbbbbbbbbbbbbbbb";
+
+fn listed(alloc: Global, layer: Layer) -> Option<EventReply> {
+    let name = Name::read(alloc, "x").ok()?;
+    let mut layers = Items::new(alloc);
+    layers.push(Listed { name, layer }).ok()?;
+    Some(EventReply::Layers(layers))
+}
+
+fn with_bias(alloc: Global) -> Option<EventReply> {
+    let mut layer = Layer::new(alloc);
+    layer
+        .push_bias(Bias {
+            dir: dir()?,
+            bias: 5,
+        })
+        .ok()?;
+    layer.push_disabled(node(B)?).ok()?;
+    listed(alloc, layer)
+}
+
+fn with_bare_update(alloc: Global) -> Option<EventReply> {
+    let mut layer = Layer::new(alloc);
+    layer
+        .push_update(Update {
+            dir: dir()?,
+            enabled: None,
+            htlc_min: None,
+            htlc_max: None,
+            base: None,
+            ppm: None,
+            delay: None,
+        })
+        .ok()?;
+    listed(alloc, layer)
+}
+
+fn with_all(alloc: Global) -> Option<EventReply> {
+    let (source, destination) = (node(A)?, node(B)?);
+    if source == destination {
+        return None;
+    }
+    let scid = Scid::read("100x3x0").ok()?;
+    let dir = Dir { scid, side: 1 };
+    let mut layer = Layer::new(alloc);
+    layer
+        .push_created(Created {
+            scid,
+            source,
+            destination,
+            capacity: 1_000_000,
+        })
+        .ok()?;
+    layer
+        .push_update(Update {
+            dir,
+            enabled: Some(true),
+            htlc_min: Some(0),
+            htlc_max: Some(1000),
+            base: Some(2),
+            ppm: Some(3),
+            delay: Some(6),
+        })
+        .ok()?;
+    layer
+        .push_constraint(Constraint {
+            dir,
+            bound: Bound::Min,
+            amount: 499,
+            moment: 100,
+        })
+        .ok()?;
+    layer.push_bias(Bias { dir, bias: -7 }).ok()?;
+    layer.push_disabled(destination).ok()?;
+    listed(alloc, layer)
+}
+
+#[test]
+fn layers(rt: HostRuntime) {
+    let alloc = rt.alloc();
+    for (at, reply, text) in [
+        (
+            3,
+            with_bias(alloc),
+            "{\"id\":null,\"jsonrpc\":\"2.0\",\"result\":{\"at\":3,\"layers\":[{\"biases\":[{\"bias\":5,\"short_channel_id_dir\":\"100x3x0/0\"}],\"channel_updates\":[],\"constraints\":[],\"created_channels\":[],\"disabled_nodes\":[\"02bbbbbbbbbbbbbbbbbbbbbbbbbbbbbbbbbbbbbbbbbbbbbbbbbbbbbbbbbbbbbbbb\"],\"layer\":\"x\"}]}}\n",
+        ),
+        (
+            4,
+            with_bare_update(alloc),
+            "{\"id\":null,\"jsonrpc\":\"2.0\",\"result\":{\"at\":4,\"layers\":[{\"biases\":[],\"channel_updates\":[{\"short_channel_id_dir\":\"100x3x0/0\"}],\"constraints\":[],\"created_channels\":[],\"disabled_nodes\":[],\"layer\":\"x\"}]}}\n",
+        ),
+        (
+            5,
+            with_all(alloc),
+            "{\"id\":null,\"jsonrpc\":\"2.0\",\"result\":{\"at\":5,\"layers\":[{\"biases\":[{\"bias\":-7,\"short_channel_id_dir\":\"100x3x0/1\"}],\"channel_updates\":[{\"cltv_expiry_delta\":6,\"enabled\":true,\"fee_base_msat\":2,\"fee_proportional_millionths\":3,\"htlc_maximum_msat\":1000,\"htlc_minimum_msat\":0,\"short_channel_id_dir\":\"100x3x0/1\"}],\"constraints\":[{\"minimum_msat\":499,\"short_channel_id_dir\":\"100x3x0/1\",\"timestamp\":100}],\"created_channels\":[{\"capacity_msat\":1000000,\"destination\":\"02bbbbbbbbbbbbbbbbbbbbbbbbbbbbbbbbbbbbbbbbbbbbbbbbbbbbbbbbbbbbbbbb\",\"short_channel_id\":\"100x3x0\",\"source\":\"02aaaaaaaaaaaaaaaaaaaaaaaaaaaaaaaaaaaaaaaaaaaaaaaaaaaaaaaaaaaaaaaa\"}],\"disabled_nodes\":[\"02bbbbbbbbbbbbbbbbbbbbbbbbbbbbbbbbbbbbbbbbbbbbbbbbbbbbbbbbbbbbbbbb\"],\"layer\":\"x\"}]}}\n",
+        ),
+    ] {
+        let Some(reply) = reply else {
+            panic!(rt; "no layer at {at}");
+        };
+        assert!(rt; says(alloc, event_body(alloc, at, &reply), text), "at {at}");
+    }
+}
+
+#[test]
+fn refusals(rt: HostRuntime) {
+    let alloc = rt.alloc();
+    let (Ok(exists), Ok(unknown), Ok(full)) = (
+        Name::read(alloc, "x"),
+        Name::read(alloc, "y"),
+        Name::read(alloc, "\"z\""),
+    ) else {
+        panic!(rt; "no names");
+    };
+    for (at, refusal, text) in [
+        (
+            1,
+            Refusal::LayerExists { layer: exists },
+            "{\"error\":{\"code\":301,\"data\":{\"at\":1,\"layer\":\"x\"},\"message\":\"layer exists\"},\"id\":null,\"jsonrpc\":\"2.0\"}\n",
+        ),
+        (
+            2,
+            Refusal::LayerUnknown { layer: unknown },
+            "{\"error\":{\"code\":302,\"data\":{\"at\":2,\"layer\":\"y\"},\"message\":\"unknown layer\"},\"id\":null,\"jsonrpc\":\"2.0\"}\n",
+        ),
+        (
+            1024,
+            Refusal::LayersFull { count: 1024 },
+            "{\"error\":{\"code\":304,\"data\":{\"at\":1024,\"count\":1024},\"message\":\"too many layers\"},\"id\":null,\"jsonrpc\":\"2.0\"}\n",
+        ),
+        (
+            65537,
+            Refusal::LayerFull { layer: full },
+            "{\"error\":{\"code\":304,\"data\":{\"at\":65537,\"layer\":\"\\\"z\\\"\"},\"message\":\"layer full\"},\"id\":null,\"jsonrpc\":\"2.0\"}\n",
+        ),
+    ] {
+        let reply = EventReply::Refused(refusal);
+        assert!(rt; says(alloc, event_body(alloc, at, &reply), text), "at {at}");
+    }
+}
+
+#[test]
+fn errors_without_an_entry(rt: HostRuntime) {
+    let alloc = rt.alloc();
+    assert!(rt;
+        says(
+            alloc,
+            parse_error(alloc),
+            "{\"error\":{\"code\":-32700,\"data\":{},\"message\":\"parse error\"},\"id\":null,\"jsonrpc\":\"2.0\"}\n",
+        )
+    );
+    assert!(rt;
+        says(
+            alloc,
+            invalid_request(alloc),
+            "{\"error\":{\"code\":-32600,\"data\":{},\"message\":\"invalid request\"},\"id\":null,\"jsonrpc\":\"2.0\"}\n",
+        )
+    );
+    assert!(rt;
+        says(
+            alloc,
+            method_not_found(alloc, "pay"),
+            "{\"error\":{\"code\":-32601,\"data\":{\"method\":\"pay\"},\"message\":\"method not found\"},\"id\":null,\"jsonrpc\":\"2.0\"}\n",
+        )
+    );
+    assert!(rt;
+        says(
+            alloc,
+            invalid_params(alloc, "amount_msat"),
+            "{\"error\":{\"code\":-32602,\"data\":{\"name\":\"amount_msat\"},\"message\":\"invalid params\"},\"id\":null,\"jsonrpc\":\"2.0\"}\n",
+        )
+    );
+    assert!(rt;
+        says(
+            alloc,
+            line_too_long(alloc),
+            "{\"error\":{\"code\":310,\"data\":{},\"message\":\"line too long\"},\"id\":null,\"jsonrpc\":\"2.0\"}\n",
+        )
+    );
+    assert!(rt;
+        says(
+            alloc,
+            journal_full(alloc, 4194304),
+            "{\"error\":{\"code\":306,\"data\":{\"length\":4194304},\"message\":\"journal full\"},\"id\":null,\"jsonrpc\":\"2.0\"}\n",
+        )
+    );
+    assert!(rt;
+        says(
+            alloc,
+            out_of_memory(alloc),
+            "{\"error\":{\"code\":399,\"data\":{},\"message\":\"out of memory\"},\"id\":null,\"jsonrpc\":\"2.0\"}\n",
+        )
+    );
+    assert!(rt;
+        says(
+            alloc,
+            out_of_memory_at(alloc, 5),
+            "{\"error\":{\"code\":399,\"data\":{\"at\":5},\"message\":\"out of memory\"},\"id\":null,\"jsonrpc\":\"2.0\"}\n",
+        )
+    );
+}
