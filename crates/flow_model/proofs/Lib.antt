@@ -1,0 +1,4 @@
+pub mod Balance
+pub mod Duality
+pub mod Costs
+pub mod Filled
