@@ -1,2 +1,3 @@
-pub mod Name
+pub mod Edit
+pub mod Layers
 pub mod Step

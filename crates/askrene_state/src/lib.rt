@@ -1,10 +1,10 @@
-//! The state of the service: its layers, by name. One command changes it by one step, which `specs/Step.antt` defines.
+//! The state of the service: its layers of knowledge, by name, in order of creation. One command changes it by one step,
+//! which `specs/Step.antt` defines; a refused command changes nothing.
 #![tactic(auto)]
 
-mod command;
-mod name;
+mod edit;
+mod listing;
 mod state;
 
-pub use command::{Command, EventReply, Refusal};
-pub use name::{Name, NameFault};
+pub use askrene_command::{Command, EventReply, Inform, Listed, Refusal};
 pub use state::{LAYERS_MAX, State};

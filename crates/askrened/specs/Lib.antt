@@ -1,3 +1,5 @@
+pub mod Asked
+pub mod Line
 pub mod Run
 pub mod Session
 pub mod Status

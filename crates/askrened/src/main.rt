@@ -1,10 +1,10 @@
 //! The program: words, streams and a clock come in, a status goes out. `run` does all of it; `main` hands it the real things.
 #![tactic(auto)]
 
-mod answers;
-mod event_reply;
-mod line;
+mod ask_loop;
+mod asked;
 mod run;
+mod serve;
 mod status;
 #[cfg(test)]
 mod tests;

@@ -4,19 +4,6 @@ use port_io::{MemClock, MemPlaces, MemSink, MemSource};
 use std::alloc::Global;
 use std::test::Fail;
 
-const FIRST: &str = "{\"id\":1,\"method\":\"askrene-create-layer\",\"params\":{\"layer\":\"x\"}}\n";
-
-const SECOND: &str =
-    "{\"id\":2,\"method\":\"askrene-create-layer\",\"params\":{\"layer\":\"x\"}}\n";
-
-const MADE: &str = "{\"id\":1,\"jsonrpc\":\"2.0\",\"result\":{\"at\":0}}\n";
-
-const EXISTS: &str =
-    "{\"error\":{\"code\":301,\"data\":{\"at\":1,\"layer\":\"x\"},\"message\":\"layer exists\"},\"id\":2,\"jsonrpc\":\"2.0\"}\n";
-
-const NOT_BUILT: &str =
-    "{\"error\":{\"code\":300,\"data\":{},\"message\":\"not built\"},\"id\":null,\"jsonrpc\":\"2.0\"}\n";
-
 /// What a run over streams in memory wrote, and how it ended.
 #[derive(Drop)]
 struct Outcome {
@@ -24,18 +11,17 @@ struct Outcome {
     sink: MemSink,
 }
 
-/// Runs `ask` on an input that comes and goes in pieces; the calls that are listed fail.
+/// Runs `ask` on an input that comes and goes in pieces; the calls that are listed fail. The clock gives 100 and then 130.
 fn ask(
     alloc: Global,
     input: &[u8],
     piece: usize,
     reads: &[u64],
     writes: &[u64],
-) -> Result<Outcome, Fail>
-    requires { 0 < piece }
-{
+) -> Result<Outcome, Fail> {
     let words = vec![in alloc; "ask".to_string(alloc)?]?;
     let mut places = MemPlaces::new(Vec::new(alloc), Vec::new(alloc));
+    let piece = piece.max(1);
     let mut source = MemSource::new(input.to_vec(alloc)?, piece, reads.to_vec(alloc)?);
     let mut sink = MemSink::new(alloc, piece, writes.to_vec(alloc)?);
     sink.reserve(65_536)?;
@@ -51,30 +37,354 @@ fn ask(
     Ok(Outcome { status, sink })
 }
 
+const FIRST: &str = "{\"id\":1,\"method\":\"askrene-create-layer\",\"params\":{\"layer\":\"x\"}}\n";
+
+const MADE: &str = "{\"id\":1,\"jsonrpc\":\"2.0\",\"result\":{\"at\":0}}\n";
+
+const LONG: &str =
+    "{\"error\":{\"code\":310,\"data\":{},\"message\":\"line too long\"},\"id\":null,\"jsonrpc\":\"2.0\"}\n";
+
 #[test]
-fn each_line_gets_its_reply(rt: HostRuntime) -> Result<(), Fail> {
-    let both = format!(in rt.alloc(); "{FIRST}{SECOND}")?;
-    let told = format!(in rt.alloc(); "{MADE}{EXISTS}")?;
-    let unended = both.as_str().trim_end();
-    let mixed = format!(in rt.alloc(); "{{\"id\":1,\"method\":\"getroutes\"}}\n{FIRST}\n[]")?;
-    let mixed_told = format!(in rt.alloc(); "{NOT_BUILT}{MADE}{NOT_BUILT}{NOT_BUILT}")?;
-    let automatic =
-        "{\"id\":1,\"method\":\"askrene-create-layer\",\"params\":{\"layer\":\"auto.x\"}}";
-    let nameless = "{\"id\":1,\"method\":\"askrene-create-layer\",\"params\":{\"layer\":\"\"}}";
+fn lines_get_their_replies(rt: HostRuntime) -> Result<(), Fail> {
     let rows = [
         ("", ""),
-        (both.as_str(), told.as_str()),
-        (unended, told.as_str()),
-        (mixed.as_str(), mixed_told.as_str()),
-        (automatic, NOT_BUILT),
-        (nameless, NOT_BUILT),
+        (
+            "{\"id\":1,\"method\":\"askrene-create-layer\",\"params\":{\"layer\":\"x\"}}\n{\"id\":2,\"method\":\"askrene-create-layer\",\"params\":{\"layer\":\"x\"}}",
+            "{\"id\":1,\"jsonrpc\":\"2.0\",\"result\":{\"at\":0}}\n{\"error\":{\"code\":301,\"data\":{\"at\":1,\"layer\":\"x\"},\"message\":\"layer exists\"},\"id\":2,\"jsonrpc\":\"2.0\"}\n",
+        ),
+        (
+            "\n{\"method\":\"askrene-create-layer\",\"params\":[\"x\"]}\n \r\n",
+            "{\"id\":null,\"jsonrpc\":\"2.0\",\"result\":{\"at\":0}}\n",
+        ),
+        (
+            "{\"id\":1,\"method\":\"askrene-create-layer\",\"params\":[\"x\"]}\n{\"id\":2,\"method\":\"askrene-bias-channel\",\"params\":[\"x\",\"100x3x0/0\",5]}\n{\"id\":3,\"method\":\"askrene-disable-node\",\"params\":{\"node\":\"02BBBBBBBBBBBBBBBBBBBBBBBBBBBBBBBBBBBBBBBBBBBBBBBBBBBBBBBBBBBBBBBB\",\"layer\":\"x\"}}\n{\"id\":4,\"method\":\"askrene-listlayers\",\"params\":[\"x\"]}",
+            "{\"id\":1,\"jsonrpc\":\"2.0\",\"result\":{\"at\":0}}\n{\"id\":2,\"jsonrpc\":\"2.0\",\"result\":{\"at\":1}}\n{\"id\":3,\"jsonrpc\":\"2.0\",\"result\":{\"at\":2}}\n{\"id\":4,\"jsonrpc\":\"2.0\",\"result\":{\"at\":3,\"layers\":[{\"biases\":[{\"bias\":5,\"short_channel_id_dir\":\"100x3x0/0\"}],\"channel_updates\":[],\"constraints\":[],\"created_channels\":[],\"disabled_nodes\":[\"02bbbbbbbbbbbbbbbbbbbbbbbbbbbbbbbbbbbbbbbbbbbbbbbbbbbbbbbbbbbbbbbb\"],\"layer\":\"x\"}]}}\n",
+        ),
+        (
+            "{\"id\":1,\"method\":\"askrene-create-layer\",\"params\":[\"x\"]}\n{\"id\":2,\"method\":\"askrene-bias-channel\",\"params\":[\"x\",\"100x3x0/0\",5]}\n{\"id\":3,\"method\":\"askrene-bias-channel\",\"params\":[\"x\",\"100x3x0/0\",6]}\n{\"id\":4,\"method\":\"askrene-bias-channel\",\"params\":[\"x\",\"100x2x0/0\",1]}\n{\"id\":5,\"method\":\"askrene-update-channel\",\"params\":{\"layer\":\"x\",\"short_channel_id_dir\":\"100x3x0/0\",\"fee_base_msat\":7}}\n{\"id\":6,\"method\":\"askrene-update-channel\",\"params\":{\"layer\":\"x\",\"short_channel_id_dir\":\"100x3x0/0\",\"fee_proportional_millionths\":9}}\n{\"id\":7,\"method\":\"askrene-listlayers\",\"params\":{}}\n{\"id\":8,\"method\":\"askrene-remove-layer\",\"params\":[\"x\"]}\n{\"id\":9,\"method\":\"askrene-listlayers\",\"params\":[null]}\n{\"id\":10,\"method\":\"askrene-age\",\"params\":[\"x\",1]}",
+            "{\"id\":1,\"jsonrpc\":\"2.0\",\"result\":{\"at\":0}}\n{\"id\":2,\"jsonrpc\":\"2.0\",\"result\":{\"at\":1}}\n{\"id\":3,\"jsonrpc\":\"2.0\",\"result\":{\"at\":2}}\n{\"id\":4,\"jsonrpc\":\"2.0\",\"result\":{\"at\":3}}\n{\"id\":5,\"jsonrpc\":\"2.0\",\"result\":{\"at\":4}}\n{\"id\":6,\"jsonrpc\":\"2.0\",\"result\":{\"at\":5}}\n{\"id\":7,\"jsonrpc\":\"2.0\",\"result\":{\"at\":6,\"layers\":[{\"biases\":[{\"bias\":6,\"short_channel_id_dir\":\"100x3x0/0\"},{\"bias\":1,\"short_channel_id_dir\":\"100x2x0/0\"}],\"channel_updates\":[{\"fee_base_msat\":7,\"fee_proportional_millionths\":9,\"short_channel_id_dir\":\"100x3x0/0\"}],\"constraints\":[],\"created_channels\":[],\"disabled_nodes\":[],\"layer\":\"x\"}]}}\n{\"id\":8,\"jsonrpc\":\"2.0\",\"result\":{\"at\":7}}\n{\"id\":9,\"jsonrpc\":\"2.0\",\"result\":{\"at\":8,\"layers\":[]}}\n{\"error\":{\"code\":302,\"data\":{\"at\":9,\"layer\":\"x\"},\"message\":\"unknown layer\"},\"id\":10,\"jsonrpc\":\"2.0\"}\n",
+        ),
+        (
+            "{\"id\":1,\"method\":\"askrene-create-layer\",\"params\":[\"x\"]}\n{\"id\":2,\"method\":\"askrene-inform-channel\",\"params\":[\"x\",\"100x3x0/0\",7,\"unconstrained\"]}\n{\"id\":3,\"method\":\"askrene-inform-channel\",\"params\":[\"x\",\"100x3x0/0\",\"7msat\",\"constrained\"]}\n{\"id\":4,\"method\":\"askrene-inform-channel\",\"params\":[\"x\",\"100x3x0/0\",7,\"succeeded\"]}\n{\"id\":5,\"method\":\"askrene-age\",\"params\":[\"x\",130]}\n{\"id\":6,\"method\":\"askrene-age\",\"params\":[\"x\",131]}",
+            "{\"id\":1,\"jsonrpc\":\"2.0\",\"result\":{\"at\":0}}\n{\"id\":2,\"jsonrpc\":\"2.0\",\"result\":{\"at\":1,\"constraints\":[{\"minimum_msat\":7,\"short_channel_id_dir\":\"100x3x0/0\",\"timestamp\":130}]}}\n{\"id\":3,\"jsonrpc\":\"2.0\",\"result\":{\"at\":2,\"constraints\":[{\"maximum_msat\":6,\"short_channel_id_dir\":\"100x3x0/0\",\"timestamp\":130}]}}\n{\"id\":4,\"jsonrpc\":\"2.0\",\"result\":{\"at\":3,\"constraints\":[]}}\n{\"id\":5,\"jsonrpc\":\"2.0\",\"result\":{\"at\":4,\"num_removed\":0}}\n{\"id\":6,\"jsonrpc\":\"2.0\",\"result\":{\"at\":5,\"num_removed\":2}}\n",
+        ),
     ];
     for (input, output) in rows {
         for piece in [1, 7, 65_536] {
             let outcome = ask(rt.alloc(), input.as_bytes(), piece, &[], &[])?;
             assert_eq!(rt; outcome.status, Status::Ok);
-            assert!(rt; outcome.sink.bytes() == output.as_bytes());
+            assert!(rt; outcome.sink.bytes() == output.as_bytes(), "{input}");
         }
+    }
+    Ok(())
+}
+
+#[test]
+fn bad_lines_are_named_and_change_nothing(rt: HostRuntime) -> Result<(), Fail> {
+    let rows = [
+        (
+            "x",
+            "{\"error\":{\"code\":-32700,\"data\":{},\"message\":\"parse error\"},\"id\":null,\"jsonrpc\":\"2.0\"}",
+        ),
+        (
+            "{",
+            "{\"error\":{\"code\":-32700,\"data\":{},\"message\":\"parse error\"},\"id\":null,\"jsonrpc\":\"2.0\"}",
+        ),
+        (
+            "{\"id\":1",
+            "{\"error\":{\"code\":-32700,\"data\":{},\"message\":\"parse error\"},\"id\":null,\"jsonrpc\":\"2.0\"}",
+        ),
+        (
+            "[1] x",
+            "{\"error\":{\"code\":-32700,\"data\":{},\"message\":\"parse error\"},\"id\":null,\"jsonrpc\":\"2.0\"}",
+        ),
+        (
+            "{\"id\":01}",
+            "{\"error\":{\"code\":-32700,\"data\":{},\"message\":\"parse error\"},\"id\":null,\"jsonrpc\":\"2.0\"}",
+        ),
+        (
+            "{\"a\":1,}",
+            "{\"error\":{\"code\":-32700,\"data\":{},\"message\":\"parse error\"},\"id\":null,\"jsonrpc\":\"2.0\"}",
+        ),
+        (
+            "{\"id\":+1}",
+            "{\"error\":{\"code\":-32700,\"data\":{},\"message\":\"parse error\"},\"id\":null,\"jsonrpc\":\"2.0\"}",
+        ),
+        (
+            "{\"id\":1e400}",
+            "{\"error\":{\"code\":-32700,\"data\":{},\"message\":\"parse error\"},\"id\":null,\"jsonrpc\":\"2.0\"}",
+        ),
+        (
+            "\"\\ud800\"",
+            "{\"error\":{\"code\":-32700,\"data\":{},\"message\":\"parse error\"},\"id\":null,\"jsonrpc\":\"2.0\"}",
+        ),
+        (
+            "\"\\x\"",
+            "{\"error\":{\"code\":-32700,\"data\":{},\"message\":\"parse error\"},\"id\":null,\"jsonrpc\":\"2.0\"}",
+        ),
+        (
+            "{\"id\":1}{",
+            "{\"error\":{\"code\":-32700,\"data\":{},\"message\":\"parse error\"},\"id\":null,\"jsonrpc\":\"2.0\"}",
+        ),
+        (
+            "nul",
+            "{\"error\":{\"code\":-32700,\"data\":{},\"message\":\"parse error\"},\"id\":null,\"jsonrpc\":\"2.0\"}",
+        ),
+        (
+            "\x0b",
+            "{\"error\":{\"code\":-32700,\"data\":{},\"message\":\"parse error\"},\"id\":null,\"jsonrpc\":\"2.0\"}",
+        ),
+        (
+            "\x0c1",
+            "{\"error\":{\"code\":-32700,\"data\":{},\"message\":\"parse error\"},\"id\":null,\"jsonrpc\":\"2.0\"}",
+        ),
+        (
+            "\"a\tb\"",
+            "{\"error\":{\"code\":-32700,\"data\":{},\"message\":\"parse error\"},\"id\":null,\"jsonrpc\":\"2.0\"}",
+        ),
+        (
+            "[[[[[[[[[[[[[[[[[[[[[[[[[[[[[[[[[[[[[[[[[[[[[[[[[[[[[[[[[[[[[[[[[[[[[[[[[[[[[[[[[[[[[[[[[[[[[[[[[[[[[[[[[[[[[[[[[[[[[[[[[[[[[[[[]]]]]]]]]]]]]]]]]]]]]]]]]]]]]]]]]]]]]]]]]]]]]]]]]]]]]]]]]]]]]]]]]]]]]]]]]]]]]]]]]]]]]]]]]]]]]]]]]]]]]]]]]]]]]]]]]]]]]]]]]]]]]]]]",
+            "{\"error\":{\"code\":-32700,\"data\":{},\"message\":\"parse error\"},\"id\":null,\"jsonrpc\":\"2.0\"}",
+        ),
+        (
+            "\u{feff}{}",
+            "{\"error\":{\"code\":-32700,\"data\":{},\"message\":\"parse error\"},\"id\":null,\"jsonrpc\":\"2.0\"}",
+        ),
+        (
+            "1",
+            "{\"error\":{\"code\":-32600,\"data\":{},\"message\":\"invalid request\"},\"id\":null,\"jsonrpc\":\"2.0\"}",
+        ),
+        (
+            "null",
+            "{\"error\":{\"code\":-32600,\"data\":{},\"message\":\"invalid request\"},\"id\":null,\"jsonrpc\":\"2.0\"}",
+        ),
+        (
+            "\"askrene-age\"",
+            "{\"error\":{\"code\":-32600,\"data\":{},\"message\":\"invalid request\"},\"id\":null,\"jsonrpc\":\"2.0\"}",
+        ),
+        (
+            "[]",
+            "{\"error\":{\"code\":-32600,\"data\":{},\"message\":\"invalid request\"},\"id\":null,\"jsonrpc\":\"2.0\"}",
+        ),
+        (
+            "true",
+            "{\"error\":{\"code\":-32600,\"data\":{},\"message\":\"invalid request\"},\"id\":null,\"jsonrpc\":\"2.0\"}",
+        ),
+        (
+            "{}",
+            "{\"error\":{\"code\":-32600,\"data\":{},\"message\":\"invalid request\"},\"id\":null,\"jsonrpc\":\"2.0\"}",
+        ),
+        (
+            "{\"id\":7}",
+            "{\"error\":{\"code\":-32600,\"data\":{},\"message\":\"invalid request\"},\"id\":7,\"jsonrpc\":\"2.0\"}",
+        ),
+        (
+            "{\"id\":1.0,\"method\":\"m\"}",
+            "{\"error\":{\"code\":-32600,\"data\":{},\"message\":\"invalid request\"},\"id\":null,\"jsonrpc\":\"2.0\"}",
+        ),
+        (
+            "{\"id\":-0,\"method\":\"m\"}",
+            "{\"error\":{\"code\":-32600,\"data\":{},\"message\":\"invalid request\"},\"id\":null,\"jsonrpc\":\"2.0\"}",
+        ),
+        (
+            "{\"id\":1e2,\"method\":\"m\"}",
+            "{\"error\":{\"code\":-32600,\"data\":{},\"message\":\"invalid request\"},\"id\":null,\"jsonrpc\":\"2.0\"}",
+        ),
+        (
+            "{\"id\":18446744073709551616,\"method\":\"m\"}",
+            "{\"error\":{\"code\":-32600,\"data\":{},\"message\":\"invalid request\"},\"id\":null,\"jsonrpc\":\"2.0\"}",
+        ),
+        (
+            "{\"id\":[],\"method\":\"m\"}",
+            "{\"error\":{\"code\":-32600,\"data\":{},\"message\":\"invalid request\"},\"id\":null,\"jsonrpc\":\"2.0\"}",
+        ),
+        (
+            "{\"id\":true,\"method\":\"m\"}",
+            "{\"error\":{\"code\":-32600,\"data\":{},\"message\":\"invalid request\"},\"id\":null,\"jsonrpc\":\"2.0\"}",
+        ),
+        (
+            "{\"id\":\"a\",\"method\":1}",
+            "{\"error\":{\"code\":-32600,\"data\":{},\"message\":\"invalid request\"},\"id\":\"a\",\"jsonrpc\":\"2.0\"}",
+        ),
+        (
+            "{\"id\":-3,\"method\":null}",
+            "{\"error\":{\"code\":-32600,\"data\":{},\"message\":\"invalid request\"},\"id\":-3,\"jsonrpc\":\"2.0\"}",
+        ),
+        (
+            "{\"id\":1,\"method\":\"m\",\"params\":1}",
+            "{\"error\":{\"code\":-32600,\"data\":{},\"message\":\"invalid request\"},\"id\":1,\"jsonrpc\":\"2.0\"}",
+        ),
+        (
+            "{\"id\":1,\"method\":\"m\",\"params\":\"x\"}",
+            "{\"error\":{\"code\":-32600,\"data\":{},\"message\":\"invalid request\"},\"id\":1,\"jsonrpc\":\"2.0\"}",
+        ),
+        (
+            "{\"id\":1,\"id\":2,\"method\":\"m\",\"method\":3}",
+            "{\"error\":{\"code\":-32600,\"data\":{},\"message\":\"invalid request\"},\"id\":2,\"jsonrpc\":\"2.0\"}",
+        ),
+        (
+            "{\"id\":1,\"method\":\"getroutes\"}",
+            "{\"error\":{\"code\":-32601,\"data\":{\"method\":\"getroutes\"},\"message\":\"method not found\"},\"id\":1,\"jsonrpc\":\"2.0\"}",
+        ),
+        (
+            "{\"id\":1,\"method\":\"\"}",
+            "{\"error\":{\"code\":-32601,\"data\":{\"method\":\"\"},\"message\":\"method not found\"},\"id\":1,\"jsonrpc\":\"2.0\"}",
+        ),
+        (
+            "{\"id\":1,\"method\":\"askrene-Age\"}",
+            "{\"error\":{\"code\":-32601,\"data\":{\"method\":\"askrene-Age\"},\"message\":\"method not found\"},\"id\":1,\"jsonrpc\":\"2.0\"}",
+        ),
+        (
+            "{\"id\":\"\\u00e9\\\"\\n\",\"method\":\"a\\\\b\"}",
+            "{\"error\":{\"code\":-32601,\"data\":{\"method\":\"a\\\\b\"},\"message\":\"method not found\"},\"id\":\"\u{e9}\\\"\\n\",\"jsonrpc\":\"2.0\"}",
+        ),
+        (
+            "{\"method\":\"m\",\"params\":null}",
+            "{\"error\":{\"code\":-32601,\"data\":{\"method\":\"m\"},\"message\":\"method not found\"},\"id\":null,\"jsonrpc\":\"2.0\"}",
+        ),
+        (
+            "{\"id\":1,\"method\":\"askrene-create-layer\",\"params\":{}}",
+            "{\"error\":{\"code\":-32602,\"data\":{\"name\":\"layer\"},\"message\":\"invalid params\"},\"id\":1,\"jsonrpc\":\"2.0\"}",
+        ),
+        (
+            "{\"id\":1,\"method\":\"askrene-create-layer\",\"params\":{\"layer\":null}}",
+            "{\"error\":{\"code\":-32602,\"data\":{\"name\":\"layer\"},\"message\":\"invalid params\"},\"id\":1,\"jsonrpc\":\"2.0\"}",
+        ),
+        (
+            "{\"id\":1,\"method\":\"askrene-create-layer\",\"params\":{\"layer\":\"\"}}",
+            "{\"error\":{\"code\":-32602,\"data\":{\"name\":\"layer\"},\"message\":\"invalid params\"},\"id\":1,\"jsonrpc\":\"2.0\"}",
+        ),
+        (
+            "{\"id\":1,\"method\":\"askrene-create-layer\",\"params\":{\"layer\":\"nnnnnnnnnnnnnnnnnnnnnnnnnnnnnnnnnnnnnnnnnnnnnnnnnnnnnnnnnnnnnnnnn\"}}",
+            "{\"error\":{\"code\":-32602,\"data\":{\"name\":\"layer\"},\"message\":\"invalid params\"},\"id\":1,\"jsonrpc\":\"2.0\"}",
+        ),
+        (
+            "{\"id\":1,\"method\":\"askrene-create-layer\",\"params\":{\"layer\":\"auto.x\"}}",
+            "{\"error\":{\"code\":-32602,\"data\":{\"name\":\"layer\"},\"message\":\"invalid params\"},\"id\":1,\"jsonrpc\":\"2.0\"}",
+        ),
+        (
+            "{\"id\":1,\"method\":\"askrene-create-layer\",\"params\":[\"x\",1]}",
+            "{\"error\":{\"code\":-32602,\"data\":{\"name\":\"params\"},\"message\":\"invalid params\"},\"id\":1,\"jsonrpc\":\"2.0\"}",
+        ),
+        (
+            "{\"id\":1,\"method\":\"askrene-create-layer\",\"params\":{\"layer\":\"x\",\"b\":null,\"a\":1}}",
+            "{\"error\":{\"code\":-32602,\"data\":{\"name\":\"a\"},\"message\":\"invalid params\"},\"id\":1,\"jsonrpc\":\"2.0\"}",
+        ),
+        (
+            "{\"id\":1,\"method\":\"askrene-create-layer\",\"params\":[]}",
+            "{\"error\":{\"code\":-32602,\"data\":{\"name\":\"layer\"},\"message\":\"invalid params\"},\"id\":1,\"jsonrpc\":\"2.0\"}",
+        ),
+        (
+            "{\"id\":1,\"method\":\"askrene-listlayers\",\"params\":[null,null]}",
+            "{\"error\":{\"code\":-32602,\"data\":{\"name\":\"params\"},\"message\":\"invalid params\"},\"id\":1,\"jsonrpc\":\"2.0\"}",
+        ),
+        (
+            "{\"id\":1,\"method\":\"askrene-listlayers\",\"params\":{\"layer\":1}}",
+            "{\"error\":{\"code\":-32602,\"data\":{\"name\":\"layer\"},\"message\":\"invalid params\"},\"id\":1,\"jsonrpc\":\"2.0\"}",
+        ),
+        (
+            "{\"id\":1,\"method\":\"askrene-listlayers\",\"params\":{\"other\":1}}",
+            "{\"error\":{\"code\":-32602,\"data\":{\"name\":\"other\"},\"message\":\"invalid params\"},\"id\":1,\"jsonrpc\":\"2.0\"}",
+        ),
+        (
+            "{\"id\":1,\"method\":\"askrene-bias-channel\",\"params\":[\"x\",\"100x3x0/2\",5]}",
+            "{\"error\":{\"code\":-32602,\"data\":{\"name\":\"short_channel_id_dir\"},\"message\":\"invalid params\"},\"id\":1,\"jsonrpc\":\"2.0\"}",
+        ),
+        (
+            "{\"id\":1,\"method\":\"askrene-bias-channel\",\"params\":[\"x\",\"100x3x0//0\",5]}",
+            "{\"error\":{\"code\":-32602,\"data\":{\"name\":\"short_channel_id_dir\"},\"message\":\"invalid params\"},\"id\":1,\"jsonrpc\":\"2.0\"}",
+        ),
+        (
+            "{\"id\":1,\"method\":\"askrene-bias-channel\",\"params\":[\"x\",\"100x3x0/0/\",5]}",
+            "{\"error\":{\"code\":-32602,\"data\":{\"name\":\"short_channel_id_dir\"},\"message\":\"invalid params\"},\"id\":1,\"jsonrpc\":\"2.0\"}",
+        ),
+        (
+            "{\"id\":1,\"method\":\"askrene-bias-channel\",\"params\":[\"x\",\"100X3x0/0\",5]}",
+            "{\"error\":{\"code\":-32602,\"data\":{\"name\":\"short_channel_id_dir\"},\"message\":\"invalid params\"},\"id\":1,\"jsonrpc\":\"2.0\"}",
+        ),
+        (
+            "{\"id\":1,\"method\":\"askrene-bias-channel\",\"params\":[\"x\",\"16777216x3x0/0\",5]}",
+            "{\"error\":{\"code\":-32602,\"data\":{\"name\":\"short_channel_id_dir\"},\"message\":\"invalid params\"},\"id\":1,\"jsonrpc\":\"2.0\"}",
+        ),
+        (
+            "{\"id\":1,\"method\":\"askrene-bias-channel\",\"params\":[\"x\",\"100x3x0/0\",101]}",
+            "{\"error\":{\"code\":-32602,\"data\":{\"name\":\"bias\"},\"message\":\"invalid params\"},\"id\":1,\"jsonrpc\":\"2.0\"}",
+        ),
+        (
+            "{\"id\":1,\"method\":\"askrene-bias-channel\",\"params\":[\"x\",\"100x3x0/0\",-101]}",
+            "{\"error\":{\"code\":-32602,\"data\":{\"name\":\"bias\"},\"message\":\"invalid params\"},\"id\":1,\"jsonrpc\":\"2.0\"}",
+        ),
+        (
+            "{\"id\":1,\"method\":\"askrene-bias-channel\",\"params\":[\"x\",\"100x3x0/0\",5.0]}",
+            "{\"error\":{\"code\":-32602,\"data\":{\"name\":\"bias\"},\"message\":\"invalid params\"},\"id\":1,\"jsonrpc\":\"2.0\"}",
+        ),
+        (
+            "{\"id\":1,\"method\":\"askrene-bias-channel\",\"params\":[\"auto.\",\"100x3x0/0\",500]}",
+            "{\"error\":{\"code\":-32602,\"data\":{\"name\":\"layer\"},\"message\":\"invalid params\"},\"id\":1,\"jsonrpc\":\"2.0\"}",
+        ),
+        (
+            "{\"id\":1,\"method\":\"askrene-bias-channel\",\"params\":[\"x\",\"100x3x0/0\"]}",
+            "{\"error\":{\"code\":-32602,\"data\":{\"name\":\"bias\"},\"message\":\"invalid params\"},\"id\":1,\"jsonrpc\":\"2.0\"}",
+        ),
+        (
+            "{\"id\":1,\"method\":\"askrene-inform-channel\",\"params\":[\"x\",\"100x3x0/0\",0,\"constrained\"]}",
+            "{\"error\":{\"code\":-32602,\"data\":{\"name\":\"amount_msat\"},\"message\":\"invalid params\"},\"id\":1,\"jsonrpc\":\"2.0\"}",
+        ),
+        (
+            "{\"id\":1,\"method\":\"askrene-inform-channel\",\"params\":[\"x\",\"100x3x0/0\",0,\"Constrained\"]}",
+            "{\"error\":{\"code\":-32602,\"data\":{\"name\":\"inform\"},\"message\":\"invalid params\"},\"id\":1,\"jsonrpc\":\"2.0\"}",
+        ),
+        (
+            "{\"id\":1,\"method\":\"askrene-inform-channel\",\"params\":[\"x\",\"100x3x0/0\",2100000000000000001,\"succeeded\"]}",
+            "{\"error\":{\"code\":-32602,\"data\":{\"name\":\"amount_msat\"},\"message\":\"invalid params\"},\"id\":1,\"jsonrpc\":\"2.0\"}",
+        ),
+        (
+            "{\"id\":1,\"method\":\"askrene-inform-channel\",\"params\":[\"x\",\"100x3x0/0\",\"5 msat\",\"succeeded\"]}",
+            "{\"error\":{\"code\":-32602,\"data\":{\"name\":\"amount_msat\"},\"message\":\"invalid params\"},\"id\":1,\"jsonrpc\":\"2.0\"}",
+        ),
+        (
+            "{\"id\":1,\"method\":\"askrene-inform-channel\",\"params\":[\"x\",\"100x3x0/0\",-1,\"succeeded\"]}",
+            "{\"error\":{\"code\":-32602,\"data\":{\"name\":\"amount_msat\"},\"message\":\"invalid params\"},\"id\":1,\"jsonrpc\":\"2.0\"}",
+        ),
+        (
+            "{\"id\":1,\"method\":\"askrene-update-channel\",\"params\":[\"x\",\"100x3x0/0\",1]}",
+            "{\"error\":{\"code\":-32602,\"data\":{\"name\":\"enabled\"},\"message\":\"invalid params\"},\"id\":1,\"jsonrpc\":\"2.0\"}",
+        ),
+        (
+            "{\"id\":1,\"method\":\"askrene-update-channel\",\"params\":{\"layer\":\"x\",\"short_channel_id_dir\":\"100x3x0/0\",\"fee_base_msat\":4294967296}}",
+            "{\"error\":{\"code\":-32602,\"data\":{\"name\":\"fee_base_msat\"},\"message\":\"invalid params\"},\"id\":1,\"jsonrpc\":\"2.0\"}",
+        ),
+        (
+            "{\"id\":1,\"method\":\"askrene-update-channel\",\"params\":{\"layer\":\"x\",\"short_channel_id_dir\":\"100x3x0/0\",\"fee_proportional_millionths\":\"1\"}}",
+            "{\"error\":{\"code\":-32602,\"data\":{\"name\":\"fee_proportional_millionths\"},\"message\":\"invalid params\"},\"id\":1,\"jsonrpc\":\"2.0\"}",
+        ),
+        (
+            "{\"id\":1,\"method\":\"askrene-update-channel\",\"params\":{\"layer\":\"x\",\"short_channel_id_dir\":\"100x3x0/0\",\"cltv_expiry_delta\":65536}}",
+            "{\"error\":{\"code\":-32602,\"data\":{\"name\":\"cltv_expiry_delta\"},\"message\":\"invalid params\"},\"id\":1,\"jsonrpc\":\"2.0\"}",
+        ),
+        (
+            "{\"id\":1,\"method\":\"askrene-disable-node\",\"params\":[\"x\",\"04bbbbbbbbbbbbbbbbbbbbbbbbbbbbbbbbbbbbbbbbbbbbbbbbbbbbbbbbbbbbbbbb\"]}",
+            "{\"error\":{\"code\":-32602,\"data\":{\"name\":\"node\"},\"message\":\"invalid params\"},\"id\":1,\"jsonrpc\":\"2.0\"}",
+        ),
+        (
+            "{\"id\":1,\"method\":\"askrene-disable-node\",\"params\":[\"x\",\"02bbbbbbbbbbbbbbbbbbbbbbbbbbbbbbbbbbbbbbbbbbbbbbbbbbbbbbbbbbbbbbb\"]}",
+            "{\"error\":{\"code\":-32602,\"data\":{\"name\":\"node\"},\"message\":\"invalid params\"},\"id\":1,\"jsonrpc\":\"2.0\"}",
+        ),
+        (
+            "{\"id\":1,\"method\":\"askrene-age\",\"params\":[\"x\",18446744073709551616]}",
+            "{\"error\":{\"code\":-32602,\"data\":{\"name\":\"cutoff\"},\"message\":\"invalid params\"},\"id\":1,\"jsonrpc\":\"2.0\"}",
+        ),
+        (
+            "{\"id\":1,\"method\":\"askrene-age\",\"params\":[\"x\",-0]}",
+            "{\"error\":{\"code\":-32602,\"data\":{\"name\":\"cutoff\"},\"message\":\"invalid params\"},\"id\":1,\"jsonrpc\":\"2.0\"}",
+        ),
+    ];
+    for (line, reply) in rows {
+        let input = format!(in rt.alloc(); "{line}\n{FIRST}")?;
+        let output = format!(in rt.alloc(); "{reply}\n{MADE}")?;
+        let outcome = ask(rt.alloc(), input.as_bytes(), 65_536, &[], &[])?;
+        assert_eq!(rt; outcome.status, Status::Ok);
+        assert!(rt; outcome.sink.bytes() == output.as_bytes(), "{line}");
     }
     Ok(())
 }
@@ -84,7 +394,8 @@ fn a_fault_is_told_where_it_comes(rt: HostRuntime) -> Result<(), Fail> {
     for call in 0..3 {
         let outcome = ask(rt.alloc(), FIRST.as_bytes(), 40, &[call], &[])?;
         assert_eq!(rt; outcome.status, Status::ReadFault);
-        assert!(rt; outcome.sink.bytes().is_empty());
+        let whole = if call < 2 { "" } else { MADE };
+        assert!(rt; outcome.sink.bytes() == whole.as_bytes());
     }
     for call in 0..2 {
         let outcome = ask(rt.alloc(), FIRST.as_bytes(), 40, &[], &[call])?;
@@ -95,14 +406,27 @@ fn a_fault_is_told_where_it_comes(rt: HostRuntime) -> Result<(), Fail> {
 }
 
 #[test]
-fn an_input_may_be_too_long(rt: HostRuntime) -> Result<(), Fail> {
+fn a_line_may_be_too_long(rt: HostRuntime) -> Result<(), Fail> {
     let longest = vec![in rt.alloc(); b' '; 1_048_576]?;
     let outcome = ask(rt.alloc(), &longest, 65_536, &[], &[])?;
     assert_eq!(rt; outcome.status, Status::Ok);
-    assert!(rt; outcome.sink.bytes() == NOT_BUILT.as_bytes());
+    assert!(rt; outcome.sink.bytes().is_empty());
     let longer = vec![in rt.alloc(); b' '; 1_048_577]?;
     let outcome = ask(rt.alloc(), &longer, 65_536, &[], &[])?;
     assert_eq!(rt; outcome.status, Status::Long);
+    assert!(rt; outcome.sink.bytes() == LONG.as_bytes());
+    Ok(())
+}
+
+#[test]
+fn there_may_be_too_many_lines(rt: HostRuntime) -> Result<(), Fail> {
+    let most = vec![in rt.alloc(); b'\n'; 1_000_000]?;
+    let outcome = ask(rt.alloc(), &most, 65_536, &[], &[])?;
+    assert_eq!(rt; outcome.status, Status::Ok);
+    let more = vec![in rt.alloc(); b'\n'; 1_000_001]?;
+    let outcome = ask(rt.alloc(), &more, 65_536, &[], &[])?;
+    assert_eq!(rt; outcome.status, Status::SessionFull);
+    assert_eq!(rt; outcome.status.code(), 8);
     assert!(rt; outcome.sink.bytes().is_empty());
     Ok(())
 }

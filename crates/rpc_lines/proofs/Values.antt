@@ -6,12 +6,11 @@ use Rattle.std.specs.BTreeMap as tree
 use Rattle.std.proofs.lemmas.Str.{is_utf8-from_IsUtf8, IsUtf8-from_is_utf8}
 use Rattle.std.proofs.lemmas.Map.Text.{btree_map_updates_text}
 use Rattle.serde_json.specs.Data.{Data}
-use Rattle.serde_json.specs.Events.{members_len}
 use Rattle.serde_json.specs.Find.{get_member}
 use Rattle.serde_json.specs.Read.{read}
 use Rattle.serde_json.specs.View.{view, members_view}
 use Rattle.serde_json.specs.declared.value.Value.{Value, Object}
-use Rattle.serde_json.proofs.Views.{view-lookup, view-Object, members_len-members_view}
+use Rattle.serde_json.proofs.Views.{view-lookup, view-Object}
 use Rattle.rpc_lines.specs.Request.{value_of, asked_in, request_of}
 
 pub value_of_read : (line : List ℕ) (value : Data) → IsUtf8 line → read line ≡ Some value → value_of line ≡ Some value
@@ -41,6 +40,3 @@ other_member name m n w other updates apart =
 pub request_of_object : (line : List ℕ) (m : BTreeMap (String Global) Value) → Some (view (Object m)) ≡ value_of line → request_of line ≡ asked_in (members_view m.entries)
 unfolding request_of
 request_of_object line m is = rw (← is, view-Object m)
-
-pub count_of_members : (m : BTreeMap (String Global) Value) → members_len (members_view m.entries) ≡ length m.entries
-count_of_members m = members_len-members_view m.entries

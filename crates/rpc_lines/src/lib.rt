@@ -2,14 +2,12 @@
 //! of its line.
 #![tactic(auto)]
 
-mod first;
 mod read;
 mod reply;
 mod request;
 #[cfg(test)]
 mod tests;
 
-pub use first::{FirstFault, layer_of, read_first};
 pub use read::read_request;
 pub use reply::{Body, Reply, write_reply};
 pub use request::{Id, Request, RpcFault};

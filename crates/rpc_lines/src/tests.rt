@@ -1,7 +1,5 @@
 //! What lines ask, and the bytes of replies, one row each.
-use crate::{
-    Body, FirstFault, Id, Reply, RpcFault, layer_of, read_first, read_request, write_reply,
-};
+use crate::{Body, Id, Reply, RpcFault, read_request, write_reply};
 use plan_base::Text;
 use serde_json::{Value, json};
 use std::alloc::{AllocError, Global};
@@ -119,74 +117,6 @@ fn a_line_is_a_request_or_has_one_of_the_causes(rt: HostRuntime) -> Result<(), F
     }
     let found = asked(rt.alloc(), b"{\"id\":\"\xff\",\"method\":\"m\"}")?;
     assert!(rt; found.as_str() == "no JSON");
-    Ok(())
-}
-
-fn first(alloc: Global, line: &[u8]) -> Result<String, AllocError> {
-    match read_first(alloc, line) {
-        Ok(request) => match (&request.id, layer_of(&request)) {
-            (Id::Unsigned(id), Some(layer)) => format!(in alloc; "{id} {layer}"),
-            _ => String::from_str(alloc, "neither"),
-        },
-        Err(FirstFault::NotBuilt) => String::from_str(alloc, "not built"),
-        Err(FirstFault::NoMemory) => Err(AllocError),
-    }
-}
-
-#[test]
-fn the_first_command_is_a_line_for_a_new_layer(rt: HostRuntime) -> Result<(), Fail> {
-    let rows = [
-        (
-            r#"{"id":3,"method":"askrene-create-layer","params":{"layer":"x"},"other":[]}"#,
-            "3 x",
-        ),
-        (
-            r#"{"id":18446744073709551615,"method":"askrene-create-layer","params":{"layer":""}}"#,
-            "18446744073709551615 ",
-        ),
-        (
-            r#"{"id":1,"method":"askrene-create-layer","params":{"layer":1,"layer":"auto.x"}}"#,
-            "1 auto.x",
-        ),
-        (
-            r#"{"id":-3,"method":"askrene-create-layer","params":{"layer":"x"}}"#,
-            "not built",
-        ),
-        (
-            r#"{"id":"3","method":"askrene-create-layer","params":{"layer":"x"}}"#,
-            "not built",
-        ),
-        (
-            r#"{"method":"askrene-create-layer","params":{"layer":"x"}}"#,
-            "not built",
-        ),
-        (
-            r#"{"id":3,"method":"getroutes","params":{"layer":"x"}}"#,
-            "not built",
-        ),
-        (r#"{"id":3,"method":"askrene-create-layer"}"#, "not built"),
-        (
-            r#"{"id":3,"method":"askrene-create-layer","params":["x"]}"#,
-            "not built",
-        ),
-        (
-            r#"{"id":3,"method":"askrene-create-layer","params":{"layer":1}}"#,
-            "not built",
-        ),
-        (
-            r#"{"id":3,"method":"askrene-create-layer","params":{"layer":"x","persistent":true}}"#,
-            "not built",
-        ),
-        (
-            r#"{"id":3,"method":"askrene-create-layer","params":{"name":"x"}}"#,
-            "not built",
-        ),
-        ("", "not built"),
-    ];
-    for (line, expected) in rows {
-        let found = first(rt.alloc(), line.as_bytes())?;
-        assert!(rt; found.as_str() == expected, "{line} is {found}");
-    }
     Ok(())
 }
 
