@@ -4,7 +4,7 @@ use Rattle.std.proofs.lemmas.List.{append-nil}
 use Rattle.std.specs.Prelude.{⊤}
 use Rattle.std.specs.Io.KnownBytes.{Appends, Keeps, IsAtEnd, prepend_known}
 use Rattle.one_history.specs.declared.entry.Entry.{Entry}
-use Rattle.line_cut.specs.Lines.{line_feed, lines_of}
+use Rattle.line_cut.specs.Lines.{lines_of}
 use Rattle.line_cut.specs.Held.{Held, nothing_held, pending, has_feed, BeginsLong, CutsLine, CutsAtFeed, IsLongNext}
 use Rattle.line_cut.specs.WholeLines.{whole_lines, joined, any_has_feed}
 use Rattle.line_cut.specs.declared.limits.TheConstants.{LINE_MAX}
@@ -17,7 +17,7 @@ use Rattle.askrene_command.specs.declared.command.Command.{Command}
 use Rattle.askrened.specs.declared.ask_loop.TheConstants.{LINES_MAX}
 use Rattle.askrened.specs.Line.{line_of}
 use Rattle.askrened.specs.Transfer.{AppendsPart}
-use Rattle.askrened.specs.Session.{Stage, Served, HasGone, SoFar, IsToldSession, IsLong, IsDone, IsFull, IsBroken, IsCutShort, IsUnanswered, IsStopped, SaysTooLong, long_line}
+use Rattle.askrened.specs.Session.{Stage, Served, HasGone, SoFar, IsToldSession, IsLong, SaysTooLong}
 use Rattle.askrened.proofs.Walks.{so_far_none, so_far_on}
 
 -- a source that hasn't ended now hadn't before
@@ -76,10 +76,11 @@ module _ (meets : List (Entry Command) → Type 0) (by : ℕ) where
 
   -- some first lines are served, and memory is wanting
   pub going_stopped : (told left rest : Option (List ℕ)) (old new : Stage) (before now : Option (List ℕ)) (count : ℕ) (ended : Bool)
-      → Going told old before ended left new now count → IsToldSession meets by NoMemory told rest old before new now
-  going_stopped None left rest old new before now count ended going = tt
-  going_stopped (Some input) None rest old new before now count ended going = absurd going
-  going_stopped (Some input) (Some bytes) rest old new before now count ended going = inl (record { left = lines_of bytes; count = count; so_far = going.so_far })
+      → Going told old before ended left new now count → count ≤ LINES_MAX → IsToldSession meets by NoMemory told rest old before new now
+  going_stopped None left rest old new before now count ended going few = tt
+  going_stopped (Some input) None rest old new before now count ended going few = absurd going
+  going_stopped (Some input) (Some bytes) rest old new before now count ended going few =
+      inl (record { left = lines_of bytes; count = count; so_far = going.so_far; few = few })
 
   -- there is one line more than may be
   pub going_full : (told left cut rest : Option (List ℕ)) (line : List ℕ) (old new : Stage) (before now : Option (List ℕ)) (count : ℕ) (ended : Bool)
@@ -113,14 +114,14 @@ module _ (meets : List (Entry Command) → Type 0) (by : ℕ) where
 
   -- a line is too long, and that is said
   too_long_said : (end : SessionEnd) (input : List ℕ) (rest : Option (List ℕ)) (old new : Stage) (before held now : Option (List ℕ)) (left : List (List ℕ)) (count : ℕ)
-      → IsLong meets by (lines_of input) old before new held → SoFar meets by (lines_of input) old before left new held count
+      → IsLong meets by (lines_of input) old before new held → SoFar meets by (lines_of input) old before left new held count → count < LINES_MAX
       → SaysTooLong end held now → IsToldSession meets by end (Some input) rest old before new now
-  too_long_said Long input rest old new before held now left count long so said = (held, long, said)
-  too_long_said WriteFault input rest old new before held now left count long so said = inr (held, long, said)
-  too_long_said NoMemory input rest old new before held now left count long so said = inl (record { left = left; count = count; so_far = rw said so })
-  too_long_said Done input rest old new before held now left count long so said = absurd said
-  too_long_said ReadFault input rest old new before held now left count long so said = absurd said
-  too_long_said Full input rest old new before held now left count long so said = absurd said
+  too_long_said Long input rest old new before held now left count long so few said = (held, long, said)
+  too_long_said WriteFault input rest old new before held now left count long so few said = inr (held, long, said)
+  too_long_said NoMemory input rest old new before held now left count long so few said = inl (record { left = left; count = count; so_far = rw said so; few = omega (arith, few) })
+  too_long_said Done input rest old new before held now left count long so few said = absurd said
+  too_long_said ReadFault input rest old new before held now left count long so few said = absurd said
+  too_long_said Full input rest old new before held now left count long so few said = absurd said
 
   pub going_long : (end : SessionEnd) (told left kept rest : Option (List ℕ)) (old new : Stage) (before held now : Option (List ℕ)) (count : ℕ) (ended : Bool)
       → Going told old before ended left new held count → count < LINES_MAX → Keeps left kept → IsLongNext kept → SaysTooLong end held now
@@ -132,7 +133,7 @@ module _ (meets : List (Entry Command) → Type 0) (by : ℕ) where
       let first = long_first (lines_of bytes) (rw keeps at long) in
       let so = rw first.is at going.so_far in
       too_long_said end input rest old new before held now (first.line ∷ first.others) count
-      (record { line = first.line; left = first.others; count = count; so_far = so; long = first.long; few = few }) so said
+      (record { line = first.line; left = first.others; count = count; so_far = so; long = first.long; few = few }) so few said
 
   -- a read failed
   pub going_broken : (told left source : Option (List ℕ)) (held : Held) (old new : Stage) (before now : Option (List ℕ)) (count : ℕ) (ended : Bool)
@@ -155,19 +156,19 @@ module _ (meets : List (Entry Command) → Type 0) (by : ℕ) where
 
   -- a line was served, and memory was wanting for its reply
   pub going_unanswered : (told left cut rest : Option (List ℕ)) (line : List ℕ) (old mid new : Stage) (before now : Option (List ℕ)) (count : ℕ) (ended : Bool)
-      → Going told old before ended left mid now count → CutsLine left line cut → HasGone meets by (line_of line) mid new → IsToldSession meets by NoMemory told rest old before new now
-  going_unanswered None left cut rest line old mid new before now count ended going cuts gone = tt
-  going_unanswered (Some input) None cut rest line old mid new before now count ended going cuts gone = absurd going
-  going_unanswered (Some input) (Some bytes) None rest line old mid new before now count ended going cuts gone = absurd cuts
-  going_unanswered (Some input) (Some bytes) (Some more) rest line old mid new before now count ended going cuts gone =
-      inr (record { line = line; left = lines_of more; mid = mid; count = count; so_far = rw cuts at going.so_far; gone = gone })
+      → Going told old before ended left mid now count → count < LINES_MAX → CutsLine left line cut → length line ≤ LINE_MAX → HasGone meets by (line_of line) mid new → IsToldSession meets by NoMemory told rest old before new now
+  going_unanswered None left cut rest line old mid new before now count ended going few cuts short gone = tt
+  going_unanswered (Some input) None cut rest line old mid new before now count ended going few cuts short gone = absurd going
+  going_unanswered (Some input) (Some bytes) None rest line old mid new before now count ended going few cuts short gone = absurd cuts
+  going_unanswered (Some input) (Some bytes) (Some more) rest line old mid new before now count ended going few cuts short gone =
+      inr (record { line = line; left = lines_of more; mid = mid; count = count; so_far = rw cuts at going.so_far; few = few; short = short; gone = gone })
 
   -- a line was served, and its reply was written in part
   pub going_cut : (told left cut rest : Option (List ℕ)) (line text : List ℕ) (old mid new : Stage) (before held now : Option (List ℕ)) (count : ℕ) (ended : Bool)
-      → Going told old before ended left mid held count → count < LINES_MAX → CutsLine left line cut → Served meets by (line_of line) mid text new → AppendsPart held now text
+      → Going told old before ended left mid held count → count < LINES_MAX → CutsLine left line cut → length line ≤ LINE_MAX → Served meets by (line_of line) mid text new → AppendsPart held now text
       → IsToldSession meets by WriteFault told rest old before new now
-  going_cut None left cut rest line text old mid new before held now count ended going few cuts served written = tt
-  going_cut (Some input) None cut rest line text old mid new before held now count ended going few cuts served written = absurd going
-  going_cut (Some input) (Some bytes) None rest line text old mid new before held now count ended going few cuts served written = absurd cuts
-  going_cut (Some input) (Some bytes) (Some more) rest line text old mid new before held now count ended going few cuts served written =
-      inl (record { line = line; left = lines_of more; mid = mid; held = held; count = count; so_far = rw cuts at going.so_far; few = few; text = text; served = served; written = written })
+  going_cut None left cut rest line text old mid new before held now count ended going few cuts short served written = tt
+  going_cut (Some input) None cut rest line text old mid new before held now count ended going few cuts short served written = absurd going
+  going_cut (Some input) (Some bytes) None rest line text old mid new before held now count ended going few cuts short served written = absurd cuts
+  going_cut (Some input) (Some bytes) (Some more) rest line text old mid new before held now count ended going few cuts short served written =
+      inl (record { line = line; left = lines_of more; mid = mid; held = held; count = count; so_far = rw cuts at going.so_far; few = few; short = short; text = text; served = served; written = written })

@@ -1,10 +1,9 @@
 -- What a line asks: nothing, something that is refused without an entry, or a command.
 use Rattle.std.specs.Prelude.{ℕ, ◌==◌, ◌||◌, List, Bool, Result, Ok, Err, Option, Some, None, if◌then◌else◌}
 use Rattle.std.specs.List.{list_all}
-use Rattle.serde_json.specs.Data.{Data, null}
 use Rattle.rpc_lines.specs.declared.request.Id.{Id}
 use Rattle.rpc_lines.specs.declared.request.Id.TheVariants.{Null}
-use Rattle.rpc_lines.specs.Reply.{Content, id_data}
+use Rattle.rpc_lines.specs.Reply.{Content}
 use Rattle.rpc_lines.specs.Request.{Asked, asks, not_json, not_request, request_of}
 use Rattle.askrene_command.specs.declared.command.Command.{Command}
 use Rattle.params.specs.Methods.{command_in}

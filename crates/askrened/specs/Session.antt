@@ -1,7 +1,7 @@
 -- A session: what becomes of the lines of one connection, for the history that its caller has seen, for the moments
 -- of its clock and for what is written. One relation serves a caller who is alone and one among others: `meets` says
 -- which entries of others may stand before each of the caller's own.
-use Rattle.std.specs.Prelude.{◌≡◌, ◌≢◌, ◌<◌, ◌≤◌, ◌⊎◌, ⊤, ℕ, List, [], ◌∷◌, ◌++◌, length, take, nat_lt, Bool, false, All, Option, Some, None}
+use Rattle.std.specs.Prelude.{◌≡◌, ◌≢◌, ◌<◌, ◌≤◌, ◌⊎◌, ⊤, ℕ, List, [], ◌∷◌, ◌++◌, length, nat_lt, Bool, false, All, Option, Some, None}
 use Rattle.std.specs.List.{list_any}
 use Rattle.std.specs.Io.KnownBytes.{Appends, Consumes}
 use Rattle.one_history.specs.declared.entry.Entry.{Entry}
@@ -93,7 +93,11 @@ abbrev pub TellsEntry : Id → Told EventReply → List ℕ → Type 0
 TellsEntry id told text =
     (text ≡ reply_line (id_data id) (event_content told.at told.reply)) ⊎ (text ≡ reply_line (id_data id) (out_of_memory_at told.at))
 
--- what is said to a line without an entry
+-- what is said to a request without an entry
+abbrev pub SaysContent : Id → Content → List ℕ → Type 0
+SaysContent id content text = (text ≡ reply_line (id_data id) content) ⊎ (text ≡ reply_line (id_data id) out_of_memory)
+
+-- what is said to a line that is no request
 abbrev pub SaysWrong : Id → Content → List ℕ → Type 0
 SaysWrong id content text = (text ≡ reply_line (id_data id) content) ⊎ SaysStarved id text
 
@@ -106,7 +110,7 @@ IsSomething happened = ⊤
 abbrev pub Tells : Id → Happened → List ℕ → Type 0
 Tells id Nothing text = ⊥
 Tells id (Entered told) text = TellsEntry id told text
-Tells id (FullJournal entries) text = SaysWrong id (journal_full entries) text
+Tells id (FullJournal entries) text = SaysContent id (journal_full entries) text
 Tells id Starved text = SaysStarved id text
 
 -- what is written for a line, by what became of it
@@ -169,6 +173,7 @@ pub record IsCutShort (meets : List (Entry Command) → Type 0) (by : ℕ) (line
   pub count : ℕ
   pub so_far : SoFar meets by lines old before (line ∷ left) mid held count
   pub few : count < LINES_MAX
+  pub short : length line ≤ LINE_MAX
   pub text : List ℕ
   pub served : Served meets by (line_of line) mid text new
   pub written : AppendsPart held now text
@@ -180,6 +185,8 @@ pub record IsUnanswered (meets : List (Entry Command) → Type 0) (by : ℕ) (li
   pub mid : Stage
   pub count : ℕ
   pub so_far : SoFar meets by lines old before (line ∷ left) mid now count
+  pub few : count < LINES_MAX
+  pub short : length line ≤ LINE_MAX
   pub gone : HasGone meets by (line_of line) mid new
 
 -- some first lines were served, and others are left
@@ -187,6 +194,7 @@ pub record IsStopped (meets : List (Entry Command) → Type 0) (by : ℕ) (lines
   pub left : List (List ℕ)
   pub count : ℕ
   pub so_far : SoFar meets by lines old before left new now count
+  pub few : count ≤ LINES_MAX
 
 -- the read that failed took nothing: the lines that an LF ends in what was taken are served
 pub record IsBroken (meets : List (Entry Command) → Type 0) (by : ℕ) (input : List ℕ) (rest : Option (List ℕ)) (old : Stage) (before : Option (List ℕ)) (new : Stage) (now : Option (List ℕ)) : Type 0 where

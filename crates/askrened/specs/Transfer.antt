@@ -1,5 +1,5 @@
 -- What a transfer of bytes leaves behind.
-use Rattle.std.specs.Prelude.{◌≡◌, ◌<◌, ℕ, List, length, take}
+use Rattle.std.specs.Prelude.{◌<◌, ℕ, List, length, take}
 use Rattle.std.specs.declared.option.Option.{Option}
 use Rattle.std.specs.Io.KnownBytes.{Appends}
 

@@ -3,7 +3,7 @@ ghost use Rattle.serde_json.specs.Written.{has_float};
 ghost use Rattle.rpc_lines.specs.Reply.{id_data, content_of, value_in, reply_line};
 ghost use Rattle.plan_answer.specs.Errors.{out_of_memory, out_of_memory_at};
 ghost use Rattle.askrened.specs.Line.{line_of, command};
-ghost use Rattle.askrened.specs.Session.{Alone, Becomes, Goes, Tells, Says, SaysStarved, TellsEntry, SaysWrong, IsSomething, Served, HasGone};
+ghost use Rattle.askrened.specs.Session.{Alone, Becomes, Goes, Tells, Says, SaysStarved, TellsEntry, SaysContent, SaysWrong, IsSomething, Served, HasGone};
 ghost use Rattle.askrene_command.specs.Command.{IsGoodCommand};
 ghost use Rattle.plan_answer.specs.EventReply.{event_content};
 ghost use Rattle.askrened.specs.Asked.{IsAsked};
@@ -108,7 +108,7 @@ fn tell_entry(alloc: Global, id: Id, told: &Told<EventReply>) -> Result<Vec<u8>,
 // What is said to a line without an entry, or that there was no memory to say it.
 fn say(alloc: Global, id: Id, body: Body) -> Result<Vec<u8>, NoMemory>
     requires { has_float (value_in (content_of body)) ≡ false }
-    ensures { IfOk result (λ text. SaysWrong id (content_of body) text.items) }
+    ensures { IfOk result (λ text. SaysContent id (content_of body) text.items) }
 {
     let reply = Reply { id, body };
     if let Ok(text) = write_reply(alloc, &reply) {

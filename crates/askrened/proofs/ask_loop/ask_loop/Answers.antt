@@ -1,4 +1,4 @@
-use Rattle.std.proofs.Common.{◌≡◌, ◌≤◌, ◌<◌, false, arith, sym, refl}
+use Rattle.std.proofs.Common.{◌≡◌, ◌≤◌, false, arith, refl}
 use Rattle.line_cut.specs.Held.{nothing_held, pending}
 use Rattle.askrened.specs.Session.{Alone, Stage}
 use Rattle.askrened.proofs.Going.{was_unended, unended_pending, rose_later, going_none, going_on, going_done, going_stopped, going_full, going_full_long, going_long, going_broken, going_unanswered, going_cut}
@@ -9,7 +9,7 @@ returns-in_default-clause-session g c =
     let told = g.I.Source.left c.args.input.now in
     let old : Stage = record { log = c.args.journal.now; clock = g.C.Clock.moments c.args.clock.now } in
     let before = g.O.Sink.written c.args.output.now in
-    going_stopped Alone 0 told (pending nothing_held told) told old old before before 0 false (going_none Alone 0 told old before)
+    going_stopped Alone 0 told (pending nothing_held told) told old old before before 0 false (going_none Alone 0 told old before) (omega arith)
 
 pub lines-init : goal.lines-init
 lines-init g c =
@@ -77,7 +77,7 @@ returns-in_default-serve_line-clause-session g c =
     let served = c.lines._served in
     let ended = c.lines.lines.ended in
     let new : Stage = record { log = c.serve_line.new.journal; clock = g.C.Clock.moments c.serve_line.new.clock } in
-    going_unanswered Alone 0 told left (pending c.next.new.self (g.I.Source.left c.next.new.source)) (g.I.Source.left c.next.new.source) c.next.new.self.line old mid new before held served ended c.lines.invariant.0 ((rw c.in-Ok-Line.field-0-is at c.in-Ok-Line.ensures.line) refl) (rw c.line.ensures at c.in_default-serve_line.ensures.gone)
+    going_unanswered Alone 0 told left (pending c.next.new.self (g.I.Source.left c.next.new.source)) (g.I.Source.left c.next.new.source) c.next.new.self.line old mid new before held served ended c.lines.invariant.0 c.lines-test.true ((rw c.in-Ok-Line.field-0-is at c.in-Ok-Line.ensures.line) refl) ((rw c.in-Ok-Line.field-0-is at c.in-Ok-Line.ensures.short) refl) (rw c.line.ensures at c.in_default-serve_line.ensures.gone)
 
 pub returns-in_default-write_all-clause-session : goal.returns-in_default-write_all-clause-session
 returns-in_default-write_all-clause-session g c =
@@ -91,7 +91,7 @@ returns-in_default-write_all-clause-session g c =
     let ended = c.lines.lines.ended in
     let new : Stage = record { log = c.serve_line.new.journal; clock = g.C.Clock.moments c.serve_line.new.clock } in
     going_cut Alone 0 told left (pending c.next.new.self (g.I.Source.left c.next.new.source)) (g.I.Source.left c.next.new.source) c.next.new.self.line c.in-Ok-serve_line.text.items old mid new before held (g.O.Sink.written c.write_all.new.output) served ended
-    c.lines.invariant.0 c.lines-test.true ((rw c.in-Ok-Line.field-0-is at c.in-Ok-Line.ensures.line) refl) (rw c.line.ensures at c.in-Ok-serve_line.ensures.served) (rw c.deref.ensures.value at c.in_default-write_all.ensures.err)
+    c.lines.invariant.0 c.lines-test.true ((rw c.in-Ok-Line.field-0-is at c.in-Ok-Line.ensures.line) refl) ((rw c.in-Ok-Line.field-0-is at c.in-Ok-Line.ensures.short) refl) (rw c.line.ensures at c.in-Ok-serve_line.ensures.served) (rw c.deref.ensures.value at c.in_default-write_all.ensures.err)
 
 pub returns-in_default-write_all-clause-write_fault : goal.returns-in_default-write_all-clause-write_fault
 returns-in_default-write_all-clause-write_fault g c =

@@ -1,4 +1,4 @@
-use Rattle.std.proofs.Common.{◌≡◌, ◌<◌, ◌≤◌, ◌+◌, ◌-◌, length, take, drop, arith}
+use Rattle.std.proofs.Common.{◌≤◌, ◌-◌, length, arith}
 use Rattle.std.proofs.lemmas.List.{take_rest, length-drop}
 use Rattle.std.proofs.Math.Seq.{take-add}
 use Rattle.port_io.proofs.Bytes.{appends_more}
