@@ -2,16 +2,13 @@
 use Rattle.std.specs.Prelude.{ℕ, ◌==◌, ◌&&◌, nat_eq, Bool, List, [], ◌∷◌, ◌++◌, position, slice_index_or, slice_set, Option, Some, None, if◌then◌else◌}
 use Rattle.std.specs.List.{list_any}
 use Rattle.std.specs.Cmp.Lexicographic.{pointwise}
-use Rattle.plan_base.specs.Dir.{Direction}
+use Rattle.plan_base.specs.Dir.{Direction, same_dir}
 use Rattle.layer.specs.declared.records.Created.{Created}
 use Rattle.layer.specs.declared.records.Update.{Update}
 use Rattle.layer.specs.declared.records.Constraint.{Constraint}
 use Rattle.layer.specs.declared.records.Bias.{Bias}
 use Rattle.layer.specs.Constraint.{since}
 use Rattle.layer.specs.Layer.{LayerLists}
-
-abbrev pub same_dir : Direction → Direction → Bool
-same_dir a b = a.scid == b.scid && a.side == b.side
 
 -- whether the layer has created the channel
 abbrev pub has_created : LayerLists → ℕ → Bool

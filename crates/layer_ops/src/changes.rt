@@ -1,10 +1,11 @@
 ghost use Rattle.std.specs.Prelude.{◌≡◌, ◌+◌, ◌<◌, length, true, position, IfSome, OnOk, OnErr};
+ghost use Rattle.plan_base.specs.Dir.{same_dir};
 ghost use Rattle.layer.specs.Created.{IsGoodCreated};
 ghost use Rattle.layer.specs.Update.{IsGoodUpdate};
 ghost use Rattle.layer.specs.Constraint.{IsGoodConstraint};
 ghost use Rattle.layer.specs.Bias.{IsGoodBias};
 ghost use Rattle.layer.specs.Layer.{entries_of};
-ghost use Rattle.layer_ops.specs.Changes.{same_dir, has_created, has_disabled, merged, with_created, with_update, with_constraint, with_bias, with_disabled, aged};
+ghost use Rattle.layer_ops.specs.Changes.{has_created, has_disabled, merged, with_created, with_update, with_constraint, with_bias, with_disabled, aged};
 ghost use Rattle.layer_ops.specs.LayerRefusal.{IsRefusedFor, refusal_of_adding, refusal_of_create, refusal_of_update, refusal_of_inform, refusal_of_bias, refusal_of_disable};
 
 use crate::LayerRefusal;

@@ -1,5 +1,5 @@
 -- Directions of a channel: its short channel id and a side, written `id/0` or `id/1`.
-use Rattle.std.specs.Prelude.{ℕ, ◌+◌, ◌==◌, Bool, List, [], ◌∷◌, ◌++◌, Option, Some, None, if◌then◌else◌}
+use Rattle.std.specs.Prelude.{ℕ, ◌+◌, ◌==◌, ◌&&◌, Bool, List, [], ◌∷◌, ◌++◌, Option, Some, None, if◌then◌else◌}
 use Rattle.std.specs.List.{before_first, after_first}
 use Rattle.plan_base.specs.Scid.{scid_of, scid_text}
 
@@ -7,6 +7,10 @@ use Rattle.plan_base.specs.Scid.{scid_of, scid_text}
 pub record Direction : Type 0 where
   pub scid : ℕ
   pub side : ℕ
+
+-- whether two directions are the same
+abbrev pub same_dir : Direction → Direction → Bool
+same_dir a b = a.scid == b.scid && a.side == b.side
 
 -- the slash in front of the side
 abbrev pub is_slash : ℕ → Bool

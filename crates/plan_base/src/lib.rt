@@ -4,6 +4,8 @@
 
 mod amount;
 mod channel_id;
+mod fee;
+mod held;
 mod items;
 mod memory;
 mod node_id;
@@ -12,6 +14,8 @@ mod text;
 
 pub use amount::{MAX, MsatFault, read_msat, write_msat};
 pub use channel_id::{Dir, Scid, ScidFault};
+pub use fee::{Toll, add_fee};
+pub use held::{Held, Reservation};
 pub use items::Items;
 pub use memory::NoMemory;
 pub use node_id::{IdFault, NodeId};

@@ -144,3 +144,12 @@ fn amounts(rt: HostRuntime) {
     }
     assert!(rt; write_msat(rt.alloc(), 100000).is_ok_and(|text| text.as_str() == "100000"));
 }
+
+#[test]
+fn fees(rt: HostRuntime) {
+    assert!(rt; add_fee(0, 1_000, 500) == 1_000);
+    assert!(rt; add_fee(100_000, 0, 1_000) == 100_100);
+    assert!(rt; add_fee(100_100, 1_000, 1_000) == 101_200);
+    assert!(rt; add_fee(999_999, 0, 1) == 999_999);
+    assert!(rt; add_fee(u64::MAX, u32::MAX, u32::MAX) == 79_246_609_239_895_598_034_449);
+}

@@ -1,0 +1,18 @@
+-- What a chain of reads went through, where it gave a value.
+use Rattle.std.proofs.Common.{◌≡◌, Bool, true, false, cond, Option, Some, None, option_and_then, refl, ap}
+use Rattle.std.proofs.lemmas.Option.{none-some, same_Some}
+
+pub cond_some : {A : Type 0} (b : Bool) (x y : A) → cond b (Some x) None ≡ Some y → (b ≡ true) × (x ≡ y)
+cond_some true x y e = (refl, same_Some x y e)
+cond_some false x y e = absurd (none-some y e)
+
+pub cond_none : {A : Type 0} (b : Bool) (o : Option A) (y : A) → cond b None o ≡ Some y → (b ≡ false) × (o ≡ Some y)
+cond_none true o y e = absurd (none-some y e)
+cond_none false o y e = (refl, e)
+
+pub and_then_some : {A B P : Type 0} (f : A → Option B) (o : Option A) (y : B) → option_and_then f o ≡ Some y → ((x : A) → o ≡ Some x → f x ≡ Some y → P) → P
+and_then_some f None y e k = absurd (none-some y e)
+and_then_some f (Some x) y e k = k x refl e
+
+pub same_parts : {A B : Type 0} (a x : A) (b y : B) → ◌≡◌ {A = Option (A × B)} (Some (a, b)) (Some (x, y)) → (a ≡ x) × (b ≡ y)
+same_parts a x b y e = let same = same_Some _ _ e in (ap (λ p. p.0) same, ap (λ p. p.1) same)

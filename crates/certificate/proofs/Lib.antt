@@ -1,0 +1,16 @@
+pub mod Decimals
+pub mod Written
+pub mod Chains
+pub mod Words
+pub mod Grammar
+pub mod Outcomes
+pub mod ManyLines
+pub mod Nodes
+pub mod Bodies
+pub mod Shapes
+pub mod Texts
+pub mod ReadTurns
+pub mod Tallied
+pub mod Found
+pub mod Verdicts
+pub mod Printed

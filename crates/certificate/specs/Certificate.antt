@@ -1,0 +1,49 @@
+-- What a certificate says: an instance, and a flow with potentials or a side.
+use Rattle.std.specs.Prelude.{ℕ, ◌<◌, ◌≤◌, ◌≡◌, List, length, map, All, Bool, ℤ, Option, Some, None, option_map}
+use Rattle.std.specs.Borrow.{Bor}
+use Rattle.plan_base.specs.declared.amount.TheConstants.{MAX}
+use Rattle.certificate.specs.declared.limits.TheConstants.{MOST_ARCS, MOST_NODES}
+use Rattle.flow_model.specs.declared.instance.Arc.{Arc}
+use Rattle.flow_model.specs.declared.solve.Solved.{Solved}
+use Rattle.flow_model.specs.declared.solve.Solved.TheVariants.{Flow, Cut}
+use Rattle.flow_model.specs.Instance.{Net, IsNet, IsGoodArc}
+use Rattle.flow_model.specs.Potentials.{IsSmall}
+
+pub record Certificate : Type 0 where
+  pub net : Net
+  pub answer : Solved
+
+-- an answer has one item for each arc or node, flows of 0 to MAX and potentials below 10^24 in absolute value
+abbrev pub IsAnswerFor : Net → Solved → Type 0
+IsAnswerFor net (Flow flow potentials) = (length flow ≡ length net.arcs) × All (λ units. units ≤ MAX) flow × (length potentials ≡ net.nodes) × All IsSmall potentials
+IsAnswerFor net (Cut side) = length side ≡ net.nodes
+
+-- the ranges of a certificate's numbers; its arcs have no direction, which stands as 0
+pub record IsCertificate (c : Certificate) : Type 0 where
+  pub ends : IsNet c.net
+  pub few_nodes : c.net.nodes ≤ MOST_NODES
+  pub few_arcs : length c.net.arcs ≤ MOST_ARCS
+  pub some_demand : 1 ≤ c.net.demand
+  pub most_demand : c.net.demand ≤ MAX
+  pub good_arcs : All IsGoodArc c.net.arcs
+  pub no_direction : All (λ a. a.dir ≡ 0) c.net.arcs
+  pub answer : IsAnswerFor c.net c.answer
+
+-- an instance without the directions of its arcs
+abbrev pub without_directions : Net → Net
+without_directions net = record net { arcs = map (λ (a : Arc). record a { dir = 0 }) net.arcs }
+
+-- the certificate of an instance with a flow and potentials, and of one with a side
+abbrev pub flow_certificate : Net → List ℕ → List ℤ → Certificate
+flow_certificate net flow potentials = record { net = without_directions net; answer = Flow flow potentials }
+
+abbrev pub cut_certificate : Net → List Bool → Certificate
+cut_certificate net side = record { net = without_directions net; answer = Cut side }
+
+-- the potentials, where there is a flow
+abbrev pub potentials_of : Solved → Option (List ℤ)
+potentials_of (Flow flow potentials) = Some potentials
+potentials_of (Cut side) = None
+
+abbrev pub potentials_view : Option (Bor (List ℤ)) → Option (List ℤ)
+potentials_view r = option_map (λ p. p.now) r

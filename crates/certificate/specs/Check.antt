@@ -1,0 +1,84 @@
+-- What the check of a certificate answers.
+use Rattle.std.specs.Prelude.{ℕ, zero, suc, ◌+◌, ◌&&◌, ◌||◌, not, Bool, List, length, position, sum_by, Option, Some, None, ◌==◌, nat_lt, nat_le, int_lt, if◌then◌else◌, ℤ, pos, ◌-ℤ◌}
+use Rattle.std.specs.Ordering.{int_eq}
+use Rattle.flow_model.specs.declared.instance.Arc.{Arc}
+use Rattle.flow_model.specs.declared.solve.Solved.{Solved}
+use Rattle.flow_model.specs.declared.solve.Solved.TheVariants.{Flow, Cut}
+use Rattle.flow_model.specs.Instance.{Net}
+use Rattle.flow_model.specs.Flow.{loads, leaving, entering, IsFeasible, IsCheapest}
+use Rattle.flow_model.specs.Potentials.{reduced_cost}
+use Rattle.flow_model.specs.Side.{on_side, crossing}
+use Rattle.certificate.specs.declared.verdict.Verdict.{Verdict}
+use Rattle.certificate.specs.declared.verdict.Verdict.TheVariants.{Cheapest, NoFlow, No}
+use Rattle.certificate.specs.Certificate.{Certificate}
+
+-- an arc that carries more than its room
+abbrev pub is_over : Arc × ℕ → Bool
+is_over l = nat_lt l.0.room l.1
+
+-- what is to leave a node more than enters it, for these ends and demand
+abbrev pub due : ℕ → ℕ → ℕ → ℕ → ℤ
+due source destination demand v = if v == source then pos demand else (if v == destination then pos 0 -ℤ pos demand else pos 0)
+
+abbrev pub is_uneven_balance : ℕ → ℕ → ℕ → ℕ → ℤ → Bool
+is_uneven_balance source destination demand v balance = not (int_eq balance (due source destination demand v))
+
+abbrev pub is_uneven : Net → List ℕ → ℕ → Bool
+is_uneven net flow v = is_uneven_balance net.source net.destination net.demand v (pos (leaving v (loads net flow)) -ℤ pos (entering v (loads net flow)))
+
+-- an arc with room left that gains, one with units that loses
+abbrev pub gains : ℕ → ℕ → ℤ → Bool
+gains units room reduced = nat_lt units room && int_lt reduced (pos 0)
+
+abbrev pub loses : ℕ → ℤ → Bool
+loses units reduced = nat_lt 0 units && int_lt (pos 0) reduced
+
+-- an arc that the potentials don't show
+abbrev pub is_missed : List ℤ → Arc × ℕ → Bool
+is_missed p l = gains l.1 l.0.room (reduced_cost p l.0) || loses l.1 (reduced_cost p l.0)
+
+-- the least number below n that the test takes
+abbrev pub or_last : (ℕ → Bool) → ℕ → Option ℕ → Option ℕ
+or_last test n (Some i) = Some i
+or_last test n None = if test n then Some n else None
+
+abbrev pub first_below : (ℕ → Bool) → ℕ → Option ℕ
+first_below test zero = None
+first_below test (suc n) = or_last test n (first_below test n)
+
+-- a failure at a place, whose line is counted from `start`; else what comes later
+abbrev pub no_at : ℕ → Option ℕ → Verdict → Verdict
+no_at start (Some i) later = No (start + i)
+no_at start None later = later
+
+-- each arc within its room, each node's balance, then each arc's reduced cost
+abbrev pub flow_verdict : Net → List ℕ → List ℤ → Verdict
+flow_verdict net flow p =
+    no_at 3 (position is_over (loads net flow))
+    (no_at (3 + length net.arcs) (first_below (is_uneven net flow) net.nodes)
+    (no_at 3 (position (is_missed p) (loads net flow)) Cheapest))
+
+-- the source on the side, the destination off it, then the rooms that leave it
+abbrev pub cut_verdict : Net → List Bool → Verdict
+cut_verdict net side =
+    if not (on_side side net.source) then No (3 + length net.arcs + net.source)
+    else (if on_side side net.destination then No (3 + length net.arcs + net.destination)
+    else (if nat_le net.demand (sum_by (crossing side) net.arcs) then No 2 else NoFlow))
+
+abbrev pub verdict_for : Net → Solved → Verdict
+verdict_for net (Flow flow potentials) = flow_verdict net flow potentials
+verdict_for net (Cut side) = cut_verdict net side
+
+abbrev pub verdict_of : Certificate → Verdict
+verdict_of c = verdict_for c.net c.answer
+
+-- the answer is a cheapest flow
+abbrev pub IsCheapestAnswer : Net → Solved → Type 0
+IsCheapestAnswer net (Flow flow potentials) = IsCheapest net flow
+IsCheapestAnswer net (Cut side) = ⊥
+
+-- what a verdict says of a certificate's instance
+abbrev pub IsTrueOf : Certificate → Verdict → Type 0
+IsTrueOf c Cheapest = IsCheapestAnswer c.net c.answer
+IsTrueOf c NoFlow = (flow : List ℕ) → IsFeasible c.net flow → ⊥
+IsTrueOf c (No line) = Unit {0}

@@ -1,0 +1,53 @@
+ghost use Rattle.std.specs.Prelude.{◌≡◌, ◌<◌, ◌≤◌, ◌+ℤ◌, ◌-ℤ◌, ◌≤ℤ◌, ◌^◌, IfOk, length, All, pos, slice_index_or, slice_set};
+ghost use Rattle.certificate.specs.Cert.{Tallies};
+
+use crate::cert::CertArc;
+use crate::limits::MOST_ARCS;
+use plan_base::NoMemory;
+use std::alloc::Global;
+
+/// For each node what leaves it less what enters it.
+pub(crate) fn balances(alloc: Global, nodes: usize, arcs: &[CertArc]) -> Result<Vec<i128>, NoMemory>
+    requires froms { All (λ a. a.from < nodes) arcs.now }
+    requires tos { All (λ a. a.to < nodes) arcs.now }
+    requires few { length arcs.now ≤ MOST_ARCS }
+    ensures { IfOk result (λ b. Tallies nodes b.items arcs.now) }
+{
+    let mut balances = vec![in alloc; 0; nodes]?;
+    tally(balances.as_mut_slice(), arcs);
+    Ok(balances)
+}
+
+/// Adds the units of each arc where it starts, and takes them where it ends.
+fn tally(balances: &mut [i128], arcs: &[CertArc])
+    requires froms { All (λ a. a.from < length balances.old) arcs.now }
+    requires tos { All (λ a. a.to < length balances.old) arcs.now }
+    requires few { length arcs.now ≤ MOST_ARCS }
+    requires zeros { All (λ z. z ≡ pos 0) balances.old }
+    ensures { Tallies (length balances.old) balances.new arcs.now }
+{
+    for i in 0..arcs.len() {
+        let arc = arcs[i];
+        raise(balances, arc.from, arc.units);
+        lower(balances, arc.to, arc.units);
+    }
+}
+
+/// Adds units to a node's balance.
+fn raise(balances: &mut [i128], node: u32, units: u64)
+    requires node { node < length balances.old }
+    requires fits { slice_index_or balances.old node (pos 0) ≤ℤ pos (2 ^ 100) }
+    ensures sum { balances.new ≡ slice_set balances.old node (slice_index_or balances.old node (pos 0) +ℤ pos units) }
+    ensures units { units < 2 ^ 64 }
+{
+    balances[node as usize] += i128::from(units);
+}
+
+/// Takes units from a node's balance.
+fn lower(balances: &mut [i128], node: u32, units: u64)
+    requires node { node < length balances.old }
+    requires fits { pos 0 ≤ℤ (slice_index_or balances.old node (pos 0) +ℤ pos (2 ^ 100)) }
+    ensures { balances.new ≡ slice_set balances.old node (slice_index_or balances.old node (pos 0) -ℤ pos units) }
+{
+    balances[node as usize] -= i128::from(units);
+}

@@ -1,0 +1,67 @@
+ghost use Rattle.std.specs.Prelude.{◌≡◌};
+ghost use Rattle.certificate.specs.Certificate.{potentials_of, potentials_view};
+
+use crate::problem::Problem;
+use std::marker::Model;
+
+/// An arc of a certificate, with the units that it carries; 0 where the certificate has no flow.
+#[derive(Clone, Copy, Debug, PartialEq, Eq)]
+pub(crate) struct CertArc {
+    pub(crate) from: u32,
+    pub(crate) to: u32,
+    pub(crate) room: u64,
+    pub(crate) cost: u64,
+    pub(crate) units: u64,
+}
+
+/// What a certificate shows its instance by.
+#[derive(Debug, Drop)]
+pub(crate) enum Evidence {
+    /// For each node its potential, and what leaves it less what enters it.
+    Potentials {
+        potentials: Vec<i128>,
+        balances: Vec<i128>,
+    },
+    /// For each node whether it is on the side of the source.
+    Side {
+        side: Vec<bool>,
+    },
+}
+
+/// A certificate: an instance, and a flow with potentials or a side. It keeps each node's balance.
+#[derive(Debug, Drop)]
+pub struct Cert {
+    pub(crate) problem: Problem,
+    pub(crate) arcs: Vec<CertArc>,
+    pub(crate) evidence: Evidence,
+}
+
+impl Model for Cert {
+    ghost use Rattle.std.specs.Prelude.{◌≡◌, length};
+    ghost use Rattle.certificate.specs.Certificate.{Certificate, IsCertificate};
+    ghost use Rattle.certificate.specs.Cert.{net_of, answer_of, HasBalances};
+
+    ghost Value = { Certificate };
+
+    ghost view = { λ c. record {
+      net = net_of c.problem c.arcs.items;
+      answer = answer_of c.arcs.items c.evidence;
+    } };
+
+    ghost invariant = { λ c. IsCertificate (record {
+      net = net_of c.problem c.arcs.items;
+      answer = answer_of c.arcs.items c.evidence;
+    }) × HasBalances c.problem.nodes c.arcs.items c.evidence × (length c.arcs.items ≡ c.problem.arcs) };
+}
+
+impl Cert {
+    /// The potentials of a flow's certificate, one for each node; None exactly for a cut.
+    pub fn potentials(&self) -> Option<&[i128]>
+        ensures { potentials_view result ≡ potentials_of self.now.answer }
+    {
+        match &self.evidence {
+            Evidence::Potentials { potentials, .. } => Some(potentials.as_slice()),
+            Evidence::Side { .. } => None,
+        }
+    }
+}

@@ -1,0 +1,216 @@
+ghost use Rattle.std.specs.Prelude.{◌≡◌, ◌<◌, ◌≤◌, ◌-◌, ◌+◌, ◌^◌, IfSome, codes, length, ℕ, List, ℤ, Bool, Option};
+ghost use Rattle.certificate.specs.Cert.{IsGoodProblem};
+ghost use Rattle.certificate.specs.Reading as Reading;
+
+use crate::cert::CertArc;
+use crate::limits::{MOST_ARCS, MOST_COST, MOST_NODES, VERSION};
+use crate::number::{number, signed};
+use crate::problem::{Kind, Problem};
+use plan_base::MAX;
+
+/// What follows the word at the front.
+#[tactic(auto, unfolding(crate::specs::Reading::read_word))]
+fn word<'a>(text: &'a [u8], word: &[u8]) -> Option<&'a [u8]>
+    ensures { Reading.text_view result ≡ Reading.read_word word.now text.now }
+{
+    if text.starts_with(word) {
+        Some(&text[word.len()..])
+    } else {
+        None
+    }
+}
+
+/// What follows the byte at the front.
+fn byte(text: &[u8], byte: u8) -> Option<&[u8]>
+    ensures { Reading.text_view result ≡ Reading.read_byte byte text.now }
+{
+    match text {
+        [first, rest @ ..] if *first == byte => Some(rest),
+        _ => None,
+    }
+}
+
+/// A space and a number of at most `most`.
+#[tactic(auto, unfolding(crate::specs::Reading::read_field))]
+fn field(text: &[u8], most: u64) -> Option<(u64, &[u8])>
+    ensures value { Reading.read_view result ≡ Reading.read_field most text.now }
+    ensures fits { IfSome result (λ r. r.0 ≤ most) }
+{
+    let text = byte(text, b' ')?;
+    number(text, most)
+}
+
+/// The first line: its word and the version.
+#[tactic(auto, unfolding(crate::specs::Reading::read_head))]
+pub(crate) fn head(text: &[u8]) -> Option<&[u8]>
+    ensures { Reading.text_view result ≡ Reading.read_head text.now }
+{
+    let text = word(text, b"askrene-certificate")?;
+    let (version, text) = field(text, VERSION)?;
+    let text = byte(text, b'\n')?;
+    if version == VERSION { Some(text) } else { None }
+}
+
+/// The word of the second line.
+#[tactic(auto, unfolding(crate::specs::Reading::read_kind))]
+pub(crate) fn kind(text: &[u8]) -> Option<(Kind, &[u8])>
+    ensures { Reading.read_view result ≡ Reading.read_kind text.now }
+{
+    if text.starts_with(b"flow") {
+        return Some((Kind::Flow, &text[4..]));
+    }
+    if text.starts_with(b"cut") {
+        return Some((Kind::Cut, &text[3..]));
+    }
+    None
+}
+
+/// The numbers of the second line.
+#[tactic(auto, using(crate::proofs::Grammar::good_problem), unfolding(crate::specs::Reading::read_problem))]
+pub(crate) fn problem(text: &[u8]) -> Option<(Problem, &[u8])>
+    ensures good { IfSome result (λ r. IsGoodProblem r.0) }
+    ensures value { Reading.read_view result ≡ Reading.read_problem text.now }
+{
+    let (nodes, text) = field(text, MOST_NODES)?;
+    let (arcs, text) = field(text, MOST_ARCS)?;
+    let (source, text) = field(text, nodes.saturating_sub(1))?;
+    let (destination, text) = field(text, nodes.saturating_sub(1))?;
+    let (demand, text) = field(text, MAX)?;
+    let text = byte(text, b'\n')?;
+    if nodes < 2 || source == destination || demand == 0 {
+        return None;
+    }
+    let problem = Problem {
+        nodes,
+        arcs,
+        source,
+        destination,
+        demand,
+    };
+    Some((problem, text))
+}
+
+/// A kind of line that stands many times in a certificate.
+pub(crate) trait Line {
+    /// What the line says.
+    type Item;
+
+    ghost reads: { Self → List ℕ → Option (Self.Item × List ℕ) };
+
+    /// The line at the front, and the text after it.
+    fn read<'a>(&self, text: &'a [u8]) -> Option<(Self::Item, &'a [u8])>
+        ensures { Reading.read_view result ≡ reads self.now text.now };
+}
+
+/// The lines of arcs.
+#[derive(Clone, Copy)]
+pub(crate) struct ArcLine {
+    pub(crate) kind: Kind,
+    pub(crate) nodes: u32,
+}
+
+/// The lines of potentials.
+#[derive(Clone, Copy)]
+pub(crate) struct PotentialLine;
+
+/// The lines of a side.
+#[derive(Clone, Copy)]
+pub(crate) struct SideLine;
+
+impl Line for ArcLine {
+    type Item = CertArc;
+
+    ghost reads = { λ l. Reading.read_arc l.kind l.nodes };
+
+    fn read<'a>(&self, text: &'a [u8]) -> Option<(CertArc, &'a [u8])> {
+        arc(text, self.kind, self.nodes)
+    }
+}
+
+impl Line for PotentialLine {
+    type Item = i128;
+
+    ghost reads = { λ _. Reading.read_potential };
+
+    fn read<'a>(&self, text: &'a [u8]) -> Option<(i128, &'a [u8])> {
+        potential(text)
+    }
+}
+
+impl Line for SideLine {
+    type Item = bool;
+
+    ghost reads = { λ _. Reading.read_side };
+
+    fn read<'a>(&self, text: &'a [u8]) -> Option<(bool, &'a [u8])> {
+        side(text)
+    }
+}
+
+/// The flow at the end of an arc's line, where there is one.
+#[tactic(auto, unfolding(crate::specs::Reading::read_units))]
+fn units(text: &[u8], kind: Kind) -> Option<(u64, &[u8])>
+    ensures { Reading.read_view result ≡ Reading.read_units kind text.now }
+{
+    match kind {
+        Kind::Flow => field(text, MAX),
+        Kind::Cut => Some((0, text)),
+    }
+}
+
+/// An arc's line.
+#[tactic(auto, unfolding(crate::specs::Reading::read_arc))]
+fn arc(text: &[u8], kind: Kind, nodes: u32) -> Option<(CertArc, &[u8])>
+    ensures { Reading.read_view result ≡ Reading.read_arc kind nodes text.now }
+{
+    let most = u64::from(nodes).saturating_sub(1);
+    let text = word(text, b"arc")?;
+    let (from, text) = field(text, most)?;
+    let (to, text) = field(text, most)?;
+    let (room, text) = field(text, MAX)?;
+    let (cost, text) = field(text, MOST_COST)?;
+    let (units, text) = units(text, kind)?;
+    let text = byte(text, b'\n')?;
+    if from == to || room == 0 || cost == 0 {
+        return None;
+    }
+    let arc = CertArc {
+        from: from as u32,
+        to: to as u32,
+        room,
+        cost,
+        units,
+    };
+    Some((arc, text))
+}
+
+/// A potential's line.
+#[tactic(auto, unfolding(crate::specs::Reading::read_potential))]
+fn potential(text: &[u8]) -> Option<(i128, &[u8])>
+    ensures { Reading.read_view result ≡ Reading.read_potential text.now }
+{
+    let text = word(text, b"potential ")?;
+    let (potential, text) = signed(text)?;
+    let text = byte(text, b'\n')?;
+    Some((potential, text))
+}
+
+/// A line of a side.
+#[tactic(auto, unfolding(crate::specs::Reading::read_side))]
+fn side(text: &[u8]) -> Option<(bool, &[u8])>
+    ensures { Reading.read_view result ≡ Reading.read_side text.now }
+{
+    let text = word(text, b"side")?;
+    let (on, text) = field(text, 1)?;
+    let text = byte(text, b'\n')?;
+    Some((on == 1, text))
+}
+
+/// The last line.
+#[tactic(auto, unfolding(crate::specs::Reading::read_end))]
+pub(crate) fn end(text: &[u8]) -> Option<&[u8]>
+    ensures { Reading.text_view result ≡ Reading.read_end text.now }
+{
+    let text = word(text, b"end")?;
+    byte(text, b'\n')
+}

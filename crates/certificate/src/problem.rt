@@ -1,0 +1,16 @@
+/// Whether a certificate has a flow or a cut.
+#[derive(Clone, Copy, Debug, PartialEq, Eq)]
+pub(crate) enum Kind {
+    Flow,
+    Cut,
+}
+
+/// The numbers of a certificate's second line: an instance without its arcs, and how many arcs follow.
+#[derive(Clone, Copy, Debug, PartialEq, Eq)]
+pub(crate) struct Problem {
+    pub(crate) nodes: u64,
+    pub(crate) arcs: u64,
+    pub(crate) source: u64,
+    pub(crate) destination: u64,
+    pub(crate) demand: u64,
+}

@@ -1,0 +1,251 @@
+ghost use Rattle.std.specs.Prelude.{◌≡◌, IfOk, ◌∷◌, []};
+
+use crate::{CertFault, CertRefusal, Verdict, check, print_cut, print_flow, read};
+use flow_model::{Arc, Flow, Instance};
+use plan_base::NoMemory;
+use std::alloc::Global;
+
+/// Two channels of 600000 and 400000 msat with three pieces each, which carry all that they hold.
+const FLOW: &str = "askrene-certificate 1
+flow 2 6 0 1 1000000
+arc 0 1 300000 255000000001 300000
+arc 0 1 180000 255000000001 180000
+arc 0 1 120000 255000000001 120000
+arc 0 1 200000 255000000001 200000
+arc 0 1 120000 255000000001 120000
+arc 0 1 80000 255000000001 80000
+potential 0
+potential 255000000001
+end
+";
+
+/// A middle node keeps a unit, and the destination lacks one.
+const UNEVEN: &str = "askrene-certificate 1
+flow 3 2 0 1 5
+arc 0 2 5 1 5
+arc 2 1 5 1 4
+potential 0
+potential 2
+potential 1
+end
+";
+
+/// Room for 5 units where 6 are asked for.
+const CUT: &str = "askrene-certificate 1
+cut 2 1 0 1 6
+arc 0 1 5 1
+side 1
+side 0
+end
+";
+
+/// What reading and checking a text came to.
+#[derive(Clone, Copy, Debug, PartialEq, Eq)]
+enum Outcome {
+    Cheapest,
+    NoFlow,
+    No(u64),
+    Unreadable(u64),
+    NoMemory,
+}
+
+use Outcome::{Cheapest, No, NoFlow, Unreadable};
+
+fn read_and_check(alloc: Global, text: &[u8]) -> Outcome {
+    match read(alloc, text) {
+        Ok(cert) => match check(&cert) {
+            Verdict::Cheapest => Cheapest,
+            Verdict::NoFlow => NoFlow,
+            Verdict::No { line } => No(line),
+        },
+        Err(CertFault::Line { line }) => Unreadable(line),
+        Err(CertFault::NoMemory) => Outcome::NoMemory,
+    }
+}
+
+/// A change of a text, and what the changed text comes to.
+type Change = (&'static str, &'static str, Outcome);
+
+/// The first two lines, the lines of nodes and the end.
+const LINES: [Change; 30] = [
+    ("certificate 1", "certificate 2", Unreadable(1)),
+    ("certificate 1", "certificate 01", Unreadable(1)),
+    ("askrene", "Askrene", Unreadable(1)),
+    ("flow 2 6", "flow 02 6", Unreadable(2)),
+    ("flow 2", "flow  2", Unreadable(2)),
+    ("flow 2 6 0 1", "flow 1 6 0 1", Unreadable(2)),
+    ("flow 2 6 0 1", "flow 2 6 1 1", Unreadable(2)),
+    ("flow 2 6 0 1", "flow 2 6 0 2", Unreadable(2)),
+    ("1000000\n", "0\n", Unreadable(2)),
+    ("1000000\n", "2100000000000000001\n", Unreadable(2)),
+    ("flow 2 6", "flow 2 262145", Unreadable(2)),
+    ("flow 2 6", "flow 262145 6", Unreadable(2)),
+    ("flow 2 6", "flow 2 5", Unreadable(8)),
+    ("flow 2 6", "flow 2 7", Unreadable(9)),
+    ("flow 2 6", "flow 3 6", Unreadable(11)),
+    ("flow", "cut", Unreadable(3)),
+    ("1000000\n", "999999\n", No(9)),
+    ("flow 2 6 0 1", "flow 2 6 1 0", No(9)),
+    ("potential 0", "potential -0", Unreadable(9)),
+    ("potential 0", "potential 00", Unreadable(9)),
+    ("potential 0", "potential +0", Unreadable(9)),
+    (
+        "potential 0",
+        "potential 1000000000000000000000000",
+        Unreadable(9),
+    ),
+    (
+        "potential 0",
+        "potential -999999999999999999999999",
+        Cheapest,
+    ),
+    ("potential 0", "potential 1", No(3)),
+    ("potential 255000000001", "potential 255000000000", No(3)),
+    ("end\n", "", Unreadable(11)),
+    ("end\n", "end", Unreadable(11)),
+    ("end\n", "end\n\n", Unreadable(12)),
+    ("end\n", "end\nend\n", Unreadable(12)),
+    ("end", "End", Unreadable(11)),
+];
+
+/// The lines of arcs.
+const ARCS: [Change; 18] = [
+    (
+        "flow 2 6 0 1 1000000\n",
+        "flow 2 7 0 1 1000000\narc 0 1 5 1 0\n",
+        No(3),
+    ),
+    ("arc 0 1 300000", "arc 0 0 300000", Unreadable(3)),
+    ("arc 0 1 300000", "arc 2 1 300000", Unreadable(3)),
+    ("arc 0 1 300000 ", "arc 0 1 0 ", Unreadable(3)),
+    (
+        "arc 0 1 300000 ",
+        "arc 0 1 2100000000000000001 ",
+        Unreadable(3),
+    ),
+    ("255000000001 180000", "0 180000", Unreadable(4)),
+    ("255000000001 180000", "2000000000000 180000", Unreadable(4)),
+    ("255000000001 180000", "1999999999999 180000", No(4)),
+    (
+        "255000000001 180000",
+        "255000000001 2100000000000000001",
+        Unreadable(4),
+    ),
+    (" 180000\n", " 180000 \n", Unreadable(4)),
+    (" 180000\n", " 180000\r\n", Unreadable(4)),
+    (" 180000\n", " 0180000\n", Unreadable(4)),
+    (" 180000\n", "\n", Unreadable(4)),
+    (" 180000\n", " 180001\n", No(4)),
+    (" 180000\n", " 179999\n", No(9)),
+    ("arc 0 1 80000 ", "arc 0 1 80001 ", Cheapest),
+    (
+        "arc 0 1 80000 255000000001",
+        "arc 0 1 80001 255000000000",
+        No(8),
+    ),
+    (
+        "arc 0 1 80000 255000000001 80000",
+        "arc 0 1 80000 255000000002 0",
+        No(9),
+    ),
+];
+
+/// The lines of a cut.
+const SIDES: [Change; 7] = [
+    (" 6\n", " 5\n", No(2)),
+    ("arc 0 1 5", "arc 1 0 5", NoFlow),
+    ("arc 0 1 5 1", "arc 0 1 5 1 0", Unreadable(3)),
+    ("side 1\nside 0", "side 0\nside 0", No(4)),
+    ("side 1\nside 0", "side 1\nside 1", No(5)),
+    ("side 1", "side 2", Unreadable(4)),
+    ("side 1", "side 01", Unreadable(4)),
+];
+
+fn changed(alloc: Global, text: &str, change: Change) -> Result<Outcome, NoMemory> {
+    let (from, to, _) = change;
+    let text = text.replacen(alloc, from, to, 1)?;
+    Ok(read_and_check(alloc, text.as_bytes()))
+}
+
+#[test]
+fn certificates_are_read_and_checked(rt: HostRuntime) {
+    assert!(rt; read_and_check(rt.alloc(), FLOW.as_bytes()) == Cheapest);
+    assert!(rt; read_and_check(rt.alloc(), CUT.as_bytes()) == NoFlow);
+    assert!(rt; read_and_check(rt.alloc(), UNEVEN.as_bytes()) == No(6));
+    assert!(rt; read_and_check(rt.alloc(), b"") == Unreadable(1));
+}
+
+#[test]
+fn a_changed_certificate_names_its_line(rt: HostRuntime) -> Result<(), NoMemory> {
+    for change in LINES {
+        assert!(rt; changed(rt.alloc(), FLOW, change)? == change.2);
+    }
+    for change in ARCS {
+        assert!(rt; changed(rt.alloc(), FLOW, change)? == change.2);
+    }
+    for change in SIDES {
+        assert!(rt; changed(rt.alloc(), CUT, change)? == change.2);
+    }
+    Ok(())
+}
+
+/// The text of one arc's instance with a flow, and with a side.
+const ONE_FLOW: &str = "askrene-certificate 1
+flow 2 1 0 1 300000
+arc 0 1 300000 255000000001 300000
+potential -1
+potential 255000000000
+end
+";
+
+const ONE_CUT: &str = "askrene-certificate 1
+cut 2 1 0 1 300000
+arc 0 1 300000 255000000001
+side 1
+side 0
+end
+";
+
+/// One arc of direction 7.
+fn one_arc(alloc: Global) -> Result<Instance, NoMemory>
+    ensures { IfOk result (λ i. i ≡ record {
+      nodes = 2;
+      source = 0;
+      destination = 1;
+      demand = 300000;
+      arcs = record {
+        from = 0;
+        to = 1;
+        room = 300000;
+        cost = 255000000001;
+        dir = 7;
+      } ∷ [];
+    }) }
+{
+    let arc = Arc {
+        from: 0,
+        to: 1,
+        room: 300_000,
+        cost: 255_000_000_001,
+        dir: 7,
+    };
+    let arcs = vec![in alloc; arc]?;
+    Ok(Instance::new(2, 0, 1, 300_000, arcs))
+}
+
+#[test]
+fn certificates_are_printed(rt: HostRuntime) -> Result<(), CertRefusal> {
+    let instance = one_arc(rt.alloc())?;
+    let mut units = Vec::new(rt.alloc());
+    if units.push(300_000).is_err() {
+        return Err(CertRefusal::NoMemory);
+    }
+    let flow = Flow::from_vec(units);
+    let text = print_flow(rt.alloc(), &instance, &flow, &[-1, 255_000_000_000])?;
+    assert!(rt; text.as_slice() == ONE_FLOW.as_bytes());
+    assert!(rt; read_and_check(rt.alloc(), text.as_slice()) == Cheapest);
+    let text = print_cut(rt.alloc(), &instance, &[true, false])?;
+    assert!(rt; text.as_slice() == ONE_CUT.as_bytes());
+    assert!(rt; read_and_check(rt.alloc(), text.as_slice()) == No(2));
+    Ok(())
+}

@@ -1,0 +1,3 @@
+pub mod Scale
+pub mod Pieces
+pub mod UnitCost

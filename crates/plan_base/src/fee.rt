@@ -1,0 +1,18 @@
+ghost use Rattle.std.specs.Prelude.{◌≡◌, ◌+◌};
+ghost use Rattle.plan_base.specs.Fee.{fee_on};
+
+/// What a channel asks for forwarding: a base fee in msat, a part of the amount in ppm, and blocks of delay.
+#[derive(Clone, Copy, Debug, PartialEq, Eq)]
+pub struct Toll {
+    pub base: u32,
+    pub ppm: u32,
+    pub delay: u16,
+}
+
+/// An amount in msat and the fee for forwarding it, `base + floor(carried * ppm / 1000000)` (BOLT 7).
+pub fn add_fee(carried: u64, base: u32, ppm: u32) -> u128
+    ensures { result ≡ carried + fee_on carried base ppm }
+{
+    let part = u128::from(carried) * u128::from(ppm) / 1_000_000;
+    u128::from(carried) + (u128::from(base) + part)
+}
