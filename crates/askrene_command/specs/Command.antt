@@ -1,15 +1,17 @@
 -- Which commands are good: those that a request can be read as. Ids of nodes, directions and the fields of fees and
 -- delays keep their ranges by their types.
-use Rattle.std.specs.Prelude.{◌≡◌, ◌≤◌, ℕ, List, true, IfSome}
-use Rattle.plan_base.specs.Dir.{Direction}
+use Rattle.std.specs.Prelude.{◌≡◌, ◌≤◌, ℕ, List, length, All, true, IfSome}
+use Rattle.plan_base.specs.declared.held.Held.{Held}
+use Rattle.plan_base.specs.Held.{IsGoodHeld}
 use Rattle.plan_base.specs.declared.amount.TheConstants.{MAX}
 use Rattle.layer.specs.Name.{is_good_name}
 use Rattle.layer.specs.Update.{IsGoodUpdate}
 use Rattle.layer.specs.Bias.{IsGoodBias}
+use Rattle.askrene_command.specs.declared.command.TheConstants.{PATH_MAX}
 use Rattle.askrene_command.specs.declared.command.Inform.{Inform}
 use Rattle.askrene_command.specs.declared.command.Inform.TheVariants.{Constrained, Unconstrained, Succeeded}
 use Rattle.askrene_command.specs.declared.command.Command.{Command}
-use Rattle.askrene_command.specs.declared.command.Command.TheVariants.{CreateLayer, RemoveLayer, ListLayers, UpdateChannel, InformChannel, BiasChannel, DisableNode, Age}
+use Rattle.askrene_command.specs.declared.command.Command.TheVariants.{CreateLayer, RemoveLayer, ListLayers, UpdateChannel, InformChannel, BiasChannel, DisableNode, Age, Reserve, Unreserve, ListReservations}
 
 -- a layer's name
 abbrev pub IsGoodName : List ℕ → Type 0
@@ -25,6 +27,12 @@ pub record IsGoodInform (amount : ℕ) (kind : Inform) : Type 0 where
   pub least : least_of kind ≤ amount
   pub most : amount ≤ MAX
 
+-- some items, not too many, each of an amount
+pub record IsGoodPath (path : List Held) : Type 0 where
+  pub some : 1 ≤ length path
+  pub few : length path ≤ PATH_MAX
+  pub amounts : All IsGoodHeld path
+
 abbrev pub IsGoodCommand : Command → Type 0
 IsGoodCommand (CreateLayer layer) = IsGoodName layer
 IsGoodCommand (RemoveLayer layer) = IsGoodName layer
@@ -34,3 +42,6 @@ IsGoodCommand (InformChannel layer dir amount kind) = IsGoodName layer × IsGood
 IsGoodCommand (BiasChannel layer bias) = IsGoodName layer × IsGoodBias bias
 IsGoodCommand (DisableNode layer node) = IsGoodName layer
 IsGoodCommand (Age layer cutoff) = IsGoodName layer
+IsGoodCommand (Reserve path) = IsGoodPath path
+IsGoodCommand (Unreserve path) = IsGoodPath path
+IsGoodCommand ListReservations = Unit {0}

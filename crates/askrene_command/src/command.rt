@@ -1,5 +1,8 @@
 use layer::{Bias, Name, Update};
-use plan_base::{Dir, NodeId};
+use plan_base::{Dir, Held, Items, NodeId};
+
+/// The greatest number of items that are reserved, or set free, at once.
+pub const PATH_MAX: usize = 1_000;
 
 /// What a payment has shown of a direction's liquidity.
 #[derive(Clone, Copy, Debug, PartialEq, Eq)]
@@ -54,4 +57,14 @@ pub enum Command {
         layer: Name,
         cutoff: u64,
     },
+    /// The amounts are set aside, all or none.
+    Reserve {
+        path: Items<Held>,
+    },
+    /// Each amount is free again: the earliest reservation of its direction and amount goes, for all items or none.
+    Unreserve {
+        path: Items<Held>,
+    },
+    /// All reservations.
+    ListReservations,
 }

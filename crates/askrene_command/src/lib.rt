@@ -4,5 +4,5 @@
 mod command;
 mod reply;
 
-pub use command::{Command, Inform};
+pub use command::{Command, Inform, PATH_MAX};
 pub use reply::{EventReply, Listed, Refusal};

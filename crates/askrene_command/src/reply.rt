@@ -1,5 +1,5 @@
 use layer::{Constraint, Layer, Name};
-use plan_base::Items;
+use plan_base::{Items, Reservation};
 
 /// A layer with its name.
 #[derive(Debug, Drop)]
@@ -19,6 +19,10 @@ pub enum Refusal {
     LayersFull { count: usize },
     /// The layer has as many entries as it may have.
     LayerFull { layer: Name },
+    /// The item of this index finds no reservation that no earlier item took.
+    NotReserved { index: usize },
+    /// There would be more reservations than there may be; so many stand.
+    ReservationsFull { length: usize },
 }
 
 /// What the caller of a command is told.
@@ -32,6 +36,8 @@ pub enum EventReply {
     Informed { constraint: Option<Constraint> },
     /// The layers that were asked for, in order of creation.
     Layers(Items<Listed>),
+    /// All reservations in order of making, at a moment in seconds.
+    Reservations { now: u64, list: Items<Reservation> },
     /// The command was refused.
     Refused(Refusal),
 }

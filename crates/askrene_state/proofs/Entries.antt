@@ -1,5 +1,5 @@
 -- Entries of a map, found by a test of their keys.
-use Rattle.std.proofs.Common.{◌≡◌, ◌<◌, ◌≤◌, ◌+◌, ℕ, zero, suc, List, [], ◌∷◌, ◌++◌, length, map, take, Bool, true, false, not, cond, nat_lt, Some, None, Option, refl, ap, sym, ◌∙◌, arith}
+use Rattle.std.proofs.Common.{◌≡◌, ◌<◌, ◌+◌, ℕ, zero, suc, List, [], ◌∷◌, ◌++◌, length, map, take, Bool, true, false, cond, nat_lt, Some, None, Option, refl, ap, arith}
 use Rattle.std.specs.List.{position, position_or_len, slice_get}
 use Rattle.std.specs.Option.{is_some}
 use Rattle.std.specs.Map.{keys_of, values_of, lookup, set_value}

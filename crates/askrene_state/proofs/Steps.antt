@@ -1,5 +1,5 @@
 -- What a change of the entries of the map is as a step of the layers.
-use Rattle.std.proofs.Common.{◌≡◌, ◌-◌, ◌<◌, ℕ, List, [], ◌∷◌, ◌++◌, length, Bool, true, false, nat_eq, nat_lt, Some, None, Option, refl, sym, IfSome, IsSome}
+use Rattle.std.proofs.Common.{◌≡◌, ◌-◌, ◌<◌, ℕ, List, [], ◌∷◌, ◌++◌, length, Bool, true, false, nat_eq, nat_lt, Some, None, Option, refl, IfSome, IsSome}
 use Rattle.std.specs.List.{position, slice_get}
 use Rattle.std.specs.Option.{is_some}
 use Rattle.std.specs.Map.{keys_of, values_of}
@@ -12,12 +12,11 @@ use Rattle.layer_ops.specs.declared.refusal.LayerRefusal.{LayerRefusal}
 use Rattle.askrene_command.specs.declared.reply.EventReply.TheVariants.{Done as EventDone, Removed, Layers, Refused}
 use Rattle.askrene_command.specs.declared.reply.Refusal.TheVariants.{LayerUnknown}
 use Rattle.askrene_state.specs.declared.edit.Edit.{Edit}
-use Rattle.askrene_state.specs.declared.edit.Edited.{Edited}
 use Rattle.askrene_state.specs.declared.edit.Edited.TheVariants.{Done, Unknown, Full}
-use Rattle.askrene_state.specs.declared.state.TheConstants.{LAYERS_MAX}
+use Rattle.askrene_state.specs.declared.layers.TheConstants.{LAYERS_MAX}
 use Rattle.askrene_state.specs.Edit.{edited, refusal_of}
 use Rattle.askrene_state.specs.Layers.{NamedLayers, has_name, layer_in, edit_in, edit_unless}
-use Rattle.askrene_state.specs.Step.{create_in, list_in, list_found, listed_of, age_in}
+use Rattle.askrene_state.specs.LayerSteps.{create_in, list_in, listed_of, age_in}
 use Rattle.askrene_state.proofs.Entries.{set_found, none_there}
 
 pub edit_unknown : (layers : NamedLayers) (name : List ℕ) (edit : Edit) → layer_in layers name ≡ None → (layers, Unknown) ≡ edit_in layers name edit

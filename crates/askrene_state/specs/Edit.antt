@@ -1,6 +1,5 @@
 -- One change of a layer: its lists afterwards, and why it may be refused.
-use Rattle.std.specs.Prelude.{ℕ, List, Option}
-use Rattle.plan_base.specs.Dir.{Direction}
+use Rattle.std.specs.Prelude.{Option}
 use Rattle.layer.specs.Layer.{LayerLists}
 use Rattle.layer.specs.Update.{IsGoodUpdate}
 use Rattle.layer.specs.Constraint.{IsGoodConstraint}

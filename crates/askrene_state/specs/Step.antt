@@ -1,98 +1,46 @@
--- One command on the state: the layers after it, and what its caller is told. Refusals stand in the order in which they
--- are tried, and a refused command changes nothing.
-use Rattle.std.specs.Prelude.{◌≡◌, ℕ, ◌-◌, List, ◌++◌, ◌∷◌, [], length, map, Bool, Option, Some, None, nat_lt, if◌then◌else◌}
-use Rattle.std.specs.Option.{is_some}
-use Rattle.plan_base.specs.Dir.{Direction}
-use Rattle.layer.specs.Layer.{LayerLists}
-use Rattle.layer.specs.declared.records.Bound.TheVariants.{Max, Min}
-use Rattle.layer.specs.declared.records.Constraint.{Constraint}
-use Rattle.layer_ops.specs.Changes.{aged}
-use Rattle.askrene_command.specs.declared.command.Inform.{Inform}
-use Rattle.askrene_command.specs.declared.command.Inform.TheVariants.{Constrained, Unconstrained, Succeeded}
+-- One command on the state: the state after it, and what its caller is told. A refused command changes nothing.
+use Rattle.std.specs.Prelude.{ℕ, List, []}
+use Rattle.plan_base.specs.declared.held.Reservation.{Reservation}
 use Rattle.askrene_command.specs.declared.command.Command.{Command}
-use Rattle.askrene_command.specs.declared.command.Command.TheVariants.{CreateLayer, RemoveLayer, ListLayers, UpdateChannel, InformChannel, BiasChannel, DisableNode, Age}
-use Rattle.askrene_command.specs.declared.reply.Listed.{Listed}
-use Rattle.askrene_command.specs.declared.reply.Refusal.{Refusal}
-use Rattle.askrene_command.specs.declared.reply.Refusal.TheVariants.{LayerExists, LayerUnknown, LayersFull, LayerFull}
+use Rattle.askrene_command.specs.declared.command.Command.TheVariants.{CreateLayer, RemoveLayer, ListLayers, UpdateChannel, InformChannel, BiasChannel, DisableNode, Age, Reserve, Unreserve, ListReservations}
 use Rattle.askrene_command.specs.declared.reply.EventReply.{EventReply}
-use Rattle.askrene_command.specs.declared.reply.EventReply.TheVariants.{Done, Removed, Informed, Layers, Refused}
-use Rattle.askrene_state.specs.declared.state.TheConstants.{LAYERS_MAX}
-use Rattle.askrene_state.specs.declared.edit.Edit.{Edit}
-use Rattle.askrene_state.specs.declared.edit.Edit.TheVariants.{Update, Learn, Bias, Disable}
-use Rattle.askrene_state.specs.declared.edit.Edited.{Edited}
-use Rattle.askrene_state.specs.declared.edit.Edited.TheVariants.{Done as done, Unknown, Full}
-use Rattle.askrene_state.specs.Layers.{NamedLayers, layer_in, with_new_layer, without_layer, with_lists, edit_in}
+use Rattle.askrene_command.specs.declared.reply.EventReply.TheVariants.{Done, Reservations}
+use Rattle.askrene_state.specs.declared.edit.Edit.TheVariants.{Update, Bias, Disable}
+use Rattle.askrene_state.specs.Layers.{NamedLayers}
+use Rattle.askrene_state.specs.LayerSteps.{no_layers, create_in, remove_in, list_in, change_in, learn_in, learnt_of, age_in}
+use Rattle.askrene_state.specs.ReservationSteps.{reserve_in, unreserve_in}
+
+-- the layers, by name, in order of creation, and the reservations, in order of making
+pub record Service : Type 0 where
+  pub layers : NamedLayers
+  pub reservations : List Reservation
 
 -- before any command
-abbrev pub no_layers : NamedLayers
-no_layers = []
+abbrev pub no_service : Service
+no_service = record { layers = no_layers; reservations = [] }
 
--- a new layer: one that is there already comes before one too many
-abbrev pub create_in : NamedLayers → List ℕ → NamedLayers × EventReply
-create_in layers layer =
-    if is_some (layer_in layers layer) then (layers, Refused (LayerExists layer))
-    else if nat_lt (length layers) LAYERS_MAX then (with_new_layer layers layer, Done)
-    else (layers, Refused (LayersFull (length layers)))
+-- the layers change, or the reservations; the rest stays
+abbrev pub on_layers : Service → NamedLayers × EventReply → Service × EventReply
+on_layers service changed = (record { layers = changed.0; reservations = service.reservations }, changed.1)
 
-abbrev pub remove_in : NamedLayers → List ℕ → NamedLayers × EventReply
-remove_in layers layer =
-    if is_some (layer_in layers layer) then (without_layer layers layer, Done) else (layers, Refused (LayerUnknown layer))
+abbrev pub on_reservations : Service → List Reservation × EventReply → Service × EventReply
+on_reservations service changed = (record { layers = service.layers; reservations = changed.0 }, changed.1)
 
-abbrev pub listed_of : List ℕ × LayerLists → Listed
-listed_of layer = record { name = layer.0; layer = layer.1 }
+abbrev pub step_of : Service → ℕ → ℕ → Command → Service × EventReply
+step_of service caller moment (CreateLayer layer) = on_layers service (create_in service.layers layer)
+step_of service caller moment (RemoveLayer layer) = on_layers service (remove_in service.layers layer)
+step_of service caller moment (ListLayers layer) = (service, list_in service.layers layer)
+step_of service caller moment (UpdateChannel layer change) = on_layers service (change_in service.layers layer (Update change) Done)
+step_of service caller moment (InformChannel layer dir amount kind) = on_layers service (learn_in service.layers layer (learnt_of dir amount moment kind))
+step_of service caller moment (BiasChannel layer bias) = on_layers service (change_in service.layers layer (Bias bias) Done)
+step_of service caller moment (DisableNode layer node) = on_layers service (change_in service.layers layer (Disable node) Done)
+step_of service caller moment (Age layer cutoff) = on_layers service (age_in service.layers layer cutoff)
+step_of service caller moment (Reserve path) = on_reservations service (reserve_in service.reservations caller moment path)
+step_of service caller moment (Unreserve path) = on_reservations service (unreserve_in service.reservations path)
+step_of service caller moment ListReservations = (service, Reservations moment service.reservations)
 
--- the one layer that was asked for, if it is there
-abbrev pub list_found : List ℕ → Option LayerLists → EventReply
-list_found layer None = Refused (LayerUnknown layer)
-list_found layer (Some lists) = Layers (listed_of (layer, lists) ∷ [])
+abbrev pub next_of : Service → ℕ → ℕ → Command → Service
+next_of service caller moment command = (step_of service caller moment command).0
 
--- all layers in order of creation, or the one
-abbrev pub list_in : NamedLayers → Option (List ℕ) → EventReply
-list_in layers None = Layers (map listed_of layers)
-list_in layers (Some layer) = list_found layer (layer_in layers layer)
-
--- what the caller of a change is told
-abbrev pub told_of : List ℕ → EventReply → Edited → EventReply
-told_of layer reply done = reply
-told_of layer reply Unknown = Refused (LayerUnknown layer)
-told_of layer reply Full = Refused (LayerFull layer)
-
-abbrev pub change_in : NamedLayers → List ℕ → Edit → EventReply → NamedLayers × EventReply
-change_in layers layer edit reply =
-    let changed = edit_in layers layer edit in (changed.0, told_of layer reply changed.1)
-
--- what an amount shows of a direction at a moment: less than what could not pass, at least what passed on
-abbrev pub learnt_of : Direction → ℕ → ℕ → Inform → Option Constraint
-learnt_of dir amount moment Constrained = Some (record { dir = dir; bound = Max; amount = amount - 1; moment = moment })
-learnt_of dir amount moment Unconstrained = Some (record { dir = dir; bound = Min; amount = amount; moment = moment })
-learnt_of dir amount moment Succeeded = None
-
-abbrev pub learn_in : NamedLayers → List ℕ → Option Constraint → NamedLayers × EventReply
-learn_in layers layer None =
-    (layers, if is_some (layer_in layers layer) then Informed None else Refused (LayerUnknown layer))
-learn_in layers layer (Some constraint) = change_in layers layer (Learn constraint) (Informed (Some constraint))
-
--- a layer forgets what was learnt before the cutoff
-abbrev pub age_found : NamedLayers → List ℕ → ℕ → Option LayerLists → NamedLayers × EventReply
-age_found layers layer cutoff None = (layers, Refused (LayerUnknown layer))
-age_found layers layer cutoff (Some lists) =
-    (with_lists layers layer (aged lists cutoff), Removed (length lists.constraints - length (aged lists cutoff).constraints))
-
-unfoldable pub age_in : NamedLayers → List ℕ → ℕ → NamedLayers × EventReply
-age_in layers layer cutoff = age_found layers layer cutoff (layer_in layers layer)
-
-abbrev pub step_of : NamedLayers → ℕ → ℕ → Command → NamedLayers × EventReply
-step_of layers caller moment (CreateLayer layer) = create_in layers layer
-step_of layers caller moment (RemoveLayer layer) = remove_in layers layer
-step_of layers caller moment (ListLayers layer) = (layers, list_in layers layer)
-step_of layers caller moment (UpdateChannel layer change) = change_in layers layer (Update change) Done
-step_of layers caller moment (InformChannel layer dir amount kind) = learn_in layers layer (learnt_of dir amount moment kind)
-step_of layers caller moment (BiasChannel layer bias) = change_in layers layer (Bias bias) Done
-step_of layers caller moment (DisableNode layer node) = change_in layers layer (Disable node) Done
-step_of layers caller moment (Age layer cutoff) = age_in layers layer cutoff
-
-abbrev pub next_of : NamedLayers → ℕ → ℕ → Command → NamedLayers
-next_of layers caller moment command = (step_of layers caller moment command).0
-
-abbrev pub reply_of : NamedLayers → ℕ → ℕ → Command → EventReply
-reply_of layers caller moment command = (step_of layers caller moment command).1
+abbrev pub reply_of : Service → ℕ → ℕ → Command → EventReply
+reply_of service caller moment command = (step_of service caller moment command).1

@@ -1,6 +1,6 @@
 ghost use Rattle.std.specs.Prelude.{◌≡◌, IfOk, map};
 ghost use Rattle.layer.specs.Layer.{LayerLists};
-ghost use Rattle.askrene_state.specs.Step.{listed_of};
+ghost use Rattle.askrene_state.specs.LayerSteps.{listed_of};
 
 use askrene_command::Listed;
 use indexmap::IndexMap;

@@ -1,245 +1,59 @@
-ghost use Rattle.std.specs.Prelude.{◌≡◌, ◌≤◌, ◌-◌, ℕ, length, IfOk, OnErr, IfSome, Option, option_map};
-ghost use Rattle.std.specs.Prelude.{◌<◌, slice_get, OnOk, IsSome, None};
-ghost use Rattle.indexmap.specs.IndexMap.{values, index_map_len, set_value_at};
+ghost use Rattle.std.specs.Prelude.{◌≡◌, ◌≤◌, length, option_map};
 ghost use Rattle.layer.specs.Layer.{LayerLists};
-ghost use Rattle.layer_ops.specs.Changes.{aged};
+ghost use Rattle.reservations.specs.Reservations.{IsGoodList};
 ghost use Rattle.askrene_command.specs.Command.{IsGoodCommand};
-ghost use Rattle.askrene_state.specs.Edit.{IsGoodEdit, edited, refusal_of};
-ghost use Rattle.askrene_state.specs.Layers.{layer_in, edit_in};
-ghost use Rattle.askrene_state.specs.Step.{no_layers, next_of, reply_of, create_in, remove_in, list_in, change_in, learn_in, learnt_of, age_in, told_of};
+ghost use Rattle.askrene_state.specs.Layers.{layer_in};
+ghost use Rattle.askrene_state.specs.Step.{Service, no_service, next_of, reply_of};
+ghost use Rattle.askrene_state.specs.declared.layers.TheConstants.{LAYERS_MAX};
 
-use crate::edit::{Edit, EditRefusal, Edited, apply};
-use crate::listing::{list_all, list_one};
-use askrene_command::{Command, EventReply, Inform, Refusal};
-use indexmap::IndexMap;
-use layer::{Bound, Constraint, Layer, Name};
+use crate::edit::Edit;
+use crate::layers::{Layers, learnt};
+use crate::reserving;
+use askrene_command::{Command, EventReply};
+use layer::{Layer, Name};
 use one_history::Object;
-use plan_base::{Dir, Items, NoMemory};
+use plan_base::{NoMemory, Reservation};
+use reservations::Reservations;
 use std::alloc::Global;
 use std::marker::Model;
 
-/// The most layers that there are at once.
-pub const LAYERS_MAX: usize = 1024;
-
-/// The layers, by name, in order of creation. Contracts see the list of each name with its five lists.
+/// The layers, by name, in order of creation, and the reservations, in order of making. Contracts see both lists.
 #[derive(Drop)]
 pub struct State {
-    layers: IndexMap<Name, Layer>,
+    layers: Layers,
+    reservations: Reservations,
 }
 
 impl Model for State {
-    ghost use Rattle.std.specs.Prelude.{ℕ, List, length, ◌≤◌};
-    ghost use Rattle.layer.specs.Layer.{LayerLists};
-    ghost use Rattle.askrene_state.specs.declared.state.TheConstants.{LAYERS_MAX};
+    ghost use Rattle.askrene_state.specs.Step.{Service};
 
-    ghost Value = { List (List ℕ × LayerLists) };
+    ghost Value = { Service };
 
-    ghost view = { λ s. s.layers.entries };
-
-    ghost invariant = { λ s. length s.layers.entries ≤ LAYERS_MAX };
+    ghost view = { λ s. record { layers = s.layers; reservations = s.reservations } };
 }
 
 impl State {
     /// The layer with this name.
     pub fn layer(&self, name: &Name) -> Option<&Layer>
-        ensures { option_map (λ layer. layer.now) result ≡ layer_in self.now name.now }
+        ensures { option_map (λ layer. layer.now) result ≡ layer_in self.now.layers name.now }
     {
-        self.layers.get(name)
+        self.layers.layer(name)
     }
 
     /// How many layers there are.
     pub fn layers(&self) -> usize
-        ensures count { result ≡ length self.now }
-        ensures few { length self.now ≤ LAYERS_MAX }
+        ensures count { result ≡ length self.now.layers }
+        ensures few { length self.now.layers ≤ LAYERS_MAX }
     {
-        self.layers.len()
+        self.layers.count()
     }
 
-    fn create(&mut self, alloc: Global, layer: &Name) -> Result<EventReply, NoMemory>
-        ensures step { IfOk result (λ reply. (self.new, reply) ≡ create_in self.old layer.now) }
-        ensures err { OnErr result (self.new ≡ self.old) }
+    /// All reservations, in order of making.
+    pub fn held(&self) -> &[Reservation]
+        ensures list { result.now ≡ self.now.reservations }
+        ensures good { IsGoodList self.now.reservations }
     {
-        let name = layer.copy(alloc)?;
-        if self.layers.contains_key(layer) {
-            return Ok(EventReply::Refused(Refusal::LayerExists { layer: name }));
-        }
-        let count = self.layers.len();
-        if count >= LAYERS_MAX {
-            return Ok(EventReply::Refused(Refusal::LayersFull { count }));
-        }
-        self.layers.insert(name, Layer::new(alloc))?;
-        Ok(EventReply::Done)
-    }
-
-    fn remove(&mut self, alloc: Global, layer: &Name) -> Result<EventReply, NoMemory>
-        ensures step { IfOk result (λ reply. (self.new, reply) ≡ remove_in self.old layer.now) }
-        ensures err { OnErr result (self.new ≡ self.old) }
-    {
-        let name = layer.copy(alloc)?;
-        match self.layers.shift_remove(layer) {
-            Some(_) => Ok(EventReply::Done),
-            None => Ok(EventReply::Refused(Refusal::LayerUnknown { layer: name })),
-        }
-    }
-
-    fn list(&self, alloc: Global, layer: &Option<Name>) -> Result<EventReply, NoMemory>
-        ensures { IfOk result (λ reply. reply ≡ list_in self.now layer.now) }
-    {
-        let Some(name) = layer else {
-            let layers = list_all(alloc, &self.layers)?;
-            return Ok(EventReply::Layers(layers));
-        };
-        let Some(layer) = self.layers.get(name) else {
-            let layer = name.copy(alloc)?;
-            return Ok(EventReply::Refused(Refusal::LayerUnknown { layer }));
-        };
-        let listed = list_one(alloc, name, layer)?;
-        let mut layers = Items::new(alloc);
-        layers.push(listed)?;
-        Ok(EventReply::Layers(layers))
-    }
-
-    // Changes the layer with this name.
-    fn edit(&mut self, layer: &Name, edit: Edit) -> Result<Edited, NoMemory>
-        requires { IsGoodEdit edit }
-        ensures step { IfOk result (λ edited. (self.new, edited) ≡ edit_in self.old layer.now edit) }
-        ensures err { OnErr result (self.new ≡ self.old) }
-    {
-        let Some(place) = self.layers.get_index_of(layer) else {
-            return Ok(Edited::Unknown);
-        };
-        match edit_at(&mut self.layers, place, edit) {
-            Ok(()) => Ok(Edited::Done),
-            Err(EditRefusal::Full) => Ok(Edited::Full),
-            Err(EditRefusal::NoMemory) => Err(NoMemory),
-        }
-    }
-
-    fn change(
-        &mut self,
-        alloc: Global,
-        layer: &Name,
-        edit: Edit,
-        reply: EventReply,
-    ) -> Result<EventReply, NoMemory>
-        requires { IsGoodEdit edit }
-        ensures step { IfOk result (λ told. (self.new, told) ≡ change_in self.old layer.now edit reply) }
-        ensures err { OnErr result (self.new ≡ self.old) }
-    {
-        let name = layer.copy(alloc)?;
-        let edited = self.edit(layer, edit)?;
-        Ok(told(edited, name, reply))
-    }
-
-    fn learn(
-        &mut self,
-        alloc: Global,
-        layer: &Name,
-        learnt: Option<Constraint>,
-    ) -> Result<EventReply, NoMemory>
-        requires { IfSome learnt (λ constraint. IsGoodEdit (Edit.Learn constraint)) }
-        ensures step { IfOk result (λ told. (self.new, told) ≡ learn_in self.old layer.now learnt) }
-        ensures err { OnErr result (self.new ≡ self.old) }
-    {
-        let constraint = learnt;
-        match learnt {
-            Some(learnt) => self.change(
-                alloc,
-                layer,
-                Edit::Learn(learnt),
-                EventReply::Informed { constraint },
-            ),
-            None => self.learn_nothing(alloc, layer),
-        }
-    }
-
-    fn learn_nothing(&self, alloc: Global, layer: &Name) -> Result<EventReply, NoMemory>
-        ensures { IfOk result (λ told. (self.now, told) ≡ learn_in self.now layer.now None) }
-    {
-        if self.layers.contains_key(layer) {
-            return Ok(EventReply::Informed { constraint: None });
-        }
-        let layer = layer.copy(alloc)?;
-        Ok(EventReply::Refused(Refusal::LayerUnknown { layer }))
-    }
-
-    fn age(&mut self, alloc: Global, layer: &Name, cutoff: u64) -> Result<EventReply, NoMemory>
-        ensures step { IfOk result (λ reply. (self.new, reply) ≡ age_in self.old layer.now cutoff) }
-        ensures err { OnErr result (self.new ≡ self.old) }
-    {
-        let name = layer.copy(alloc)?;
-        let Some(place) = self.layers.get_index_of(layer) else {
-            return Ok(EventReply::Refused(Refusal::LayerUnknown { layer: name }));
-        };
-        let count = age_at(&mut self.layers, place, cutoff);
-        Ok(EventReply::Removed { count })
-    }
-}
-
-// Changes the layer at a place.
-#[tactic(auto, using(crate::proofs::Entries::keep_at, crate::proofs::Entries::length_at))]
-fn edit_at(layers: &mut IndexMap<Name, Layer>, place: usize, edit: Edit) -> Result<(), EditRefusal>
-    requires within { place < index_map_len layers.old }
-    requires good { IsGoodEdit edit }
-    ensures ok { OnOk result (IfSome (slice_get (values layers.old) place)
-        (λ lists. layers.new.entries ≡ set_value_at layers.old.entries place (edited edit lists))) }
-    ensures room { OnOk result (IfSome (slice_get (values layers.old) place) (λ lists. refusal_of edit lists ≡ None)) }
-    ensures err { OnErr result (layers.new.entries ≡ layers.old.entries) }
-    ensures len { length layers.new.entries ≡ length layers.old.entries }
-    ensures full { result ≡ Err EditRefusal.Full
-        → IfSome (slice_get (values layers.old) place) (λ lists. IsSome (refusal_of edit lists)) }
-{
-    let Some(layer) = layers.get_index_mut(place) else {
-        unreachable!()
-    };
-    apply(layer, edit)
-}
-
-// Lets the layer at a place forget what was learnt before the cutoff.
-#[tactic(auto, using(crate::proofs::Entries::length_at))]
-fn age_at(layers: &mut IndexMap<Name, Layer>, place: usize, cutoff: u64) -> u32
-    requires { place < index_map_len layers.old }
-    ensures kept { IfSome (slice_get (values layers.old) place)
-        (λ lists. layers.new.entries ≡ set_value_at layers.old.entries place (aged lists cutoff)) }
-    ensures count { IfSome (slice_get (values layers.old) place)
-        (λ lists. result ≡ length lists.constraints - length (aged lists cutoff).constraints) }
-    ensures len { length layers.new.entries ≡ length layers.old.entries }
-{
-    let Some(layer) = layers.get_index_mut(place) else {
-        unreachable!()
-    };
-    layer_ops::age(layer, cutoff)
-}
-
-// What the caller of a change is told.
-fn told(edited: Edited, layer: Name, reply: EventReply) -> EventReply
-    ensures { result ≡ told_of layer reply edited }
-{
-    match edited {
-        Edited::Done => reply,
-        Edited::Unknown => EventReply::Refused(Refusal::LayerUnknown { layer }),
-        Edited::Full => EventReply::Refused(Refusal::LayerFull { layer }),
-    }
-}
-
-// What an amount shows of a direction at a moment.
-fn learnt(dir: Dir, amount: u64, moment: u64, kind: Inform) -> Option<Constraint>
-    ensures { result ≡ learnt_of dir amount moment kind }
-{
-    match kind {
-        Inform::Constrained => Some(Constraint {
-            dir,
-            bound: Bound::Max,
-            amount: amount.saturating_sub(1),
-            moment,
-        }),
-        Inform::Unconstrained => Some(Constraint {
-            dir,
-            bound: Bound::Min,
-            amount,
-            moment,
-        }),
-        Inform::Succeeded => None,
+        self.reservations.list()
     }
 }
 
@@ -248,7 +62,7 @@ impl Object for State {
 
     type Reply = EventReply;
 
-    ghost start = { no_layers };
+    ghost start = { no_service };
 
     ghost good = { IsGoodCommand };
 
@@ -258,46 +72,51 @@ impl Object for State {
 
     fn fresh(alloc: Global) -> Result<Self, NoMemory> {
         Ok(State {
-            layers: IndexMap::new(alloc),
+            layers: Layers::new(alloc),
+            reservations: Reservations::new(alloc),
         })
     }
 
     fn step(
         &mut self,
         alloc: Global,
-        _: u32,
+        caller: u32,
         moment: u64,
         command: &Command,
     ) -> Result<EventReply, NoMemory> {
         match command {
-            Command::CreateLayer { layer } => self.create(alloc, layer),
-            Command::RemoveLayer { layer } => self.remove(alloc, layer),
-            Command::ListLayers { layer } => self.list(alloc, layer),
-            Command::UpdateChannel { layer, change } => self.change(
-                alloc,
-                layer,
-                Edit::Update(*change),
-                EventReply::Done,
-            ),
+            Command::CreateLayer { layer } => self.layers.create(alloc, layer),
+            Command::RemoveLayer { layer } => self.layers.remove(alloc, layer),
+            Command::ListLayers { layer } => self.layers.list(alloc, layer),
+            Command::UpdateChannel { layer, change } => {
+                let edit = Edit::Update(*change);
+                self.layers.change(alloc, layer, edit, EventReply::Done)
+            }
             Command::InformChannel {
                 layer,
                 dir,
                 amount,
                 kind,
-            } => self.learn(alloc, layer, learnt(*dir, *amount, moment, *kind)),
-            Command::BiasChannel { layer, bias } => self.change(
-                alloc,
-                layer,
-                Edit::Bias(*bias),
-                EventReply::Done,
-            ),
-            Command::DisableNode { layer, node } => self.change(
-                alloc,
-                layer,
-                Edit::Disable(*node),
-                EventReply::Done,
-            ),
-            Command::Age { layer, cutoff } => self.age(alloc, layer, *cutoff),
+            } => {
+                let learnt = learnt(*dir, *amount, moment, *kind);
+                self.layers.learn(alloc, layer, learnt)
+            }
+            Command::BiasChannel { layer, bias } => {
+                let edit = Edit::Bias(*bias);
+                self.layers.change(alloc, layer, edit, EventReply::Done)
+            }
+            Command::DisableNode { layer, node } => {
+                let edit = Edit::Disable(*node);
+                self.layers.change(alloc, layer, edit, EventReply::Done)
+            }
+            Command::Age { layer, cutoff } => self.layers.age(alloc, layer, *cutoff),
+            Command::Reserve { path } => {
+                reserving::reserve(&mut self.reservations, caller, moment, path.as_slice())
+            }
+            Command::Unreserve { path } => {
+                Ok(reserving::unreserve(&mut self.reservations, path.as_slice()))
+            }
+            Command::ListReservations => reserving::list(alloc, &self.reservations, moment),
         }
     }
 }

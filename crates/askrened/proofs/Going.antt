@@ -16,7 +16,7 @@ use Rattle.port_io.specs.declared.session_end.SessionEnd.TheVariants.{Done, Read
 use Rattle.askrene_command.specs.declared.command.Command.{Command}
 use Rattle.askrened.specs.declared.ask_loop.TheConstants.{LINES_MAX}
 use Rattle.askrened.specs.Line.{line_of}
-use Rattle.askrened.specs.Transfer.{AppendsPart}
+use Rattle.transfer.specs.Transfer.{AppendsPart}
 use Rattle.askrened.specs.Session.{Stage, Served, HasGone, SoFar, IsToldSession, IsLong, SaysTooLong}
 use Rattle.askrened.proofs.Walks.{so_far_none, so_far_on}
 

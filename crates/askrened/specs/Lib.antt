@@ -3,4 +3,3 @@ pub mod Line
 pub mod Run
 pub mod Session
 pub mod Status
-pub mod Transfer

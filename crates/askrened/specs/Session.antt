@@ -15,7 +15,7 @@ use Rattle.line_cut.specs.declared.limits.TheConstants.{LINE_MAX}
 use Rattle.rpc_lines.specs.Reply.{Content, id_data, reply_line}
 use Rattle.rpc_lines.specs.declared.request.Id.{Id}
 use Rattle.rpc_lines.specs.declared.request.Id.TheVariants.{Null}
-use Rattle.askrene_state.specs.Step.{no_layers, next_of, reply_of}
+use Rattle.askrene_state.specs.Step.{no_service, next_of, reply_of}
 use Rattle.askrene_command.specs.declared.command.Command.{Command}
 use Rattle.askrene_command.specs.declared.reply.EventReply.{EventReply}
 use Rattle.plan_answer.specs.EventReply.{event_content}
@@ -25,7 +25,7 @@ use Rattle.askrened.specs.declared.serve.Happened.{Happened}
 use Rattle.askrened.specs.declared.serve.Happened.TheVariants.{Nothing, Entered, Full as FullJournal, Starved}
 use Rattle.port_io.specs.declared.session_end.SessionEnd.{SessionEnd}
 use Rattle.port_io.specs.declared.session_end.SessionEnd.TheVariants.{Done, ReadFault, WriteFault, NoMemory, Full, Long}
-use Rattle.askrened.specs.Transfer.{AppendsPart}
+use Rattle.transfer.specs.Transfer.{AppendsPart}
 use Rattle.askrened.specs.declared.ask_loop.TheConstants.{LINES_MAX}
 
 -- what a line may change: the history that the caller has seen, and the moments that its clock has left, where told
@@ -51,7 +51,7 @@ pub record IsEntered (meets : List (Entry Command) → Type 0) (by : ℕ) (asked
   pub room : length (old.log ++ between) < JOURNAL_MAX
   pub log : new.log ≡ old.log ++ between ++ entry_of by moment asked ∷ []
   pub place : told.at ≡ length (old.log ++ between)
-  pub reply : told.reply ≡ reply_of (fold next_of no_layers (old.log ++ between)) by moment asked
+  pub reply : told.reply ≡ reply_of (fold next_of no_service (old.log ++ between)) by moment asked
 
 -- the journal has no room: no entry, and none for any later line
 pub record IsRefused (meets : List (Entry Command) → Type 0) (entries : ℕ) (old new : Stage) : Type 0 where

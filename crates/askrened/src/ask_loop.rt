@@ -3,7 +3,6 @@ ghost use Rattle.port_io.specs.Faults.{Rose};
 ghost use Rattle.askrened.specs.Session.{Alone, IsToldSession, SaysTooLong, long_line};
 
 use crate::serve::serve_line;
-use crate::transfer::write_all;
 use askrene_state::State;
 use line_cut::{Cut, Lines};
 use one_history::Journal;
@@ -12,6 +11,7 @@ use plan_base::NoMemory;
 use port_io::{Clock, SessionEnd, Sink, Source};
 use rpc_lines::{Id, Reply, write_reply};
 use std::alloc::Global;
+use transfer::write_all;
 
 /// The most lines of a session.
 pub const LINES_MAX: u32 = 1_000_000;

@@ -8,7 +8,6 @@ mod serve;
 mod status;
 #[cfg(test)]
 mod tests;
-mod transfer;
 
 use port_io::{StdClock, StdPlaces, StdSink, StdSource};
 use run::run;

@@ -1,6 +1,7 @@
 ghost use Rattle.std.specs.Prelude.{◌≡◌};
 ghost use Rattle.askrened.specs.Status.{code_of};
 
+use check_command::CheckEnd;
 use port_io::SessionEnd;
 
 /// How the program ended. Its code is the exit status.
@@ -16,9 +17,11 @@ pub enum Status {
     WriteFault,
     /// There was no memory.
     NoMemory,
+    /// A check found that the input doesn't show what it claims, or that it is no certificate.
+    CheckNo,
     /// There was a line behind the most lines of a session.
     SessionFull,
-    /// A line was too long.
+    /// A line, or the whole input of a check, was too long.
     Long,
 }
 
@@ -33,6 +36,7 @@ impl Status {
             Status::ReadFault => 4,
             Status::WriteFault => 5,
             Status::NoMemory => 6,
+            Status::CheckNo => 7,
             Status::SessionFull => 8,
             Status::Long => 9,
         }
@@ -53,6 +57,24 @@ impl From<SessionEnd> for Status {
             SessionEnd::NoMemory => Status::NoMemory,
             SessionEnd::Full => Status::SessionFull,
             SessionEnd::Long => Status::Long,
+        }
+    }
+}
+
+impl From<CheckEnd> for Status {
+    ghost use Rattle.std.specs.Prelude.{◌≡◌};
+    ghost use Rattle.askrened.specs.Run.{status_of_check};
+
+    ghost from_gives = { λ end status. status ≡ status_of_check end };
+
+    fn from(end: CheckEnd) -> Status {
+        match end {
+            CheckEnd::Shown => Status::Ok,
+            CheckEnd::NotShown => Status::CheckNo,
+            CheckEnd::Long => Status::Long,
+            CheckEnd::ReadFault => Status::ReadFault,
+            CheckEnd::WriteFault => Status::WriteFault,
+            CheckEnd::NoMemory => Status::NoMemory,
         }
     }
 }

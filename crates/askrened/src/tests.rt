@@ -11,15 +11,17 @@ struct Outcome {
     sink: MemSink,
 }
 
-/// Runs `ask` on an input that comes and goes in pieces; the calls that are listed fail. The clock gives 100 and then 130.
-fn ask(
+/// Runs a command on an input that comes and goes in pieces; the calls that are listed fail. The clock gives 100 and then
+/// 130.
+fn go(
     alloc: Global,
+    word: &str,
     input: &[u8],
     piece: usize,
     reads: &[u64],
     writes: &[u64],
 ) -> Result<Outcome, Fail> {
-    let words = vec![in alloc; "ask".to_string(alloc)?]?;
+    let words = vec![in alloc; word.to_string(alloc)?]?;
     let mut places = MemPlaces::new(Vec::new(alloc), Vec::new(alloc));
     let piece = piece.max(1);
     let mut source = MemSource::new(input.to_vec(alloc)?, piece, reads.to_vec(alloc)?);
@@ -37,6 +39,17 @@ fn ask(
     Ok(Outcome { status, sink })
 }
 
+/// Runs `ask` on an input.
+fn ask(
+    alloc: Global,
+    input: &[u8],
+    piece: usize,
+    reads: &[u64],
+    writes: &[u64],
+) -> Result<Outcome, Fail> {
+    go(alloc, "ask", input, piece, reads, writes)
+}
+
 const FIRST: &str = "{\"id\":1,\"method\":\"askrene-create-layer\",\"params\":{\"layer\":\"x\"}}\n";
 
 const MADE: &str = "{\"id\":1,\"jsonrpc\":\"2.0\",\"result\":{\"at\":0}}\n";
@@ -44,38 +57,79 @@ const MADE: &str = "{\"id\":1,\"jsonrpc\":\"2.0\",\"result\":{\"at\":0}}\n";
 const LONG: &str =
     "{\"error\":{\"code\":310,\"data\":{},\"message\":\"line too long\"},\"id\":null,\"jsonrpc\":\"2.0\"}\n";
 
+/// Lines and their replies, with 100 and then 130 as the moments.
+const REPLIES: &[(&str, &str)] = &[
+    ("", ""),
+    (
+        "{\"id\":1,\"method\":\"askrene-create-layer\",\"params\":{\"layer\":\"x\"}}\n{\"id\":2,\"method\":\"askrene-create-layer\",\"params\":{\"layer\":\"x\"}}",
+        "{\"id\":1,\"jsonrpc\":\"2.0\",\"result\":{\"at\":0}}\n{\"error\":{\"code\":301,\"data\":{\"at\":1,\"layer\":\"x\"},\"message\":\"layer exists\"},\"id\":2,\"jsonrpc\":\"2.0\"}\n",
+    ),
+    (
+        "\n{\"method\":\"askrene-create-layer\",\"params\":[\"x\"]}\n \r\n",
+        "{\"id\":null,\"jsonrpc\":\"2.0\",\"result\":{\"at\":0}}\n",
+    ),
+    (
+        "{\"id\":1,\"method\":\"askrene-create-layer\",\"params\":[\"x\"]}\n{\"id\":2,\"method\":\"askrene-bias-channel\",\"params\":[\"x\",\"100x3x0/0\",5]}\n{\"id\":3,\"method\":\"askrene-disable-node\",\"params\":{\"node\":\"02BBBBBBBBBBBBBBBBBBBBBBBBBBBBBBBBBBBBBBBBBBBBBBBBBBBBBBBBBBBBBBBB\",\"layer\":\"x\"}}\n{\"id\":4,\"method\":\"askrene-listlayers\",\"params\":[\"x\"]}",
+        "{\"id\":1,\"jsonrpc\":\"2.0\",\"result\":{\"at\":0}}\n{\"id\":2,\"jsonrpc\":\"2.0\",\"result\":{\"at\":1}}\n{\"id\":3,\"jsonrpc\":\"2.0\",\"result\":{\"at\":2}}\n{\"id\":4,\"jsonrpc\":\"2.0\",\"result\":{\"at\":3,\"layers\":[{\"biases\":[{\"bias\":5,\"short_channel_id_dir\":\"100x3x0/0\"}],\"channel_updates\":[],\"constraints\":[],\"created_channels\":[],\"disabled_nodes\":[\"02bbbbbbbbbbbbbbbbbbbbbbbbbbbbbbbbbbbbbbbbbbbbbbbbbbbbbbbbbbbbbbbb\"],\"layer\":\"x\"}]}}\n",
+    ),
+    (
+        "{\"id\":1,\"method\":\"askrene-create-layer\",\"params\":[\"x\"]}\n{\"id\":2,\"method\":\"askrene-bias-channel\",\"params\":[\"x\",\"100x3x0/0\",5]}\n{\"id\":3,\"method\":\"askrene-bias-channel\",\"params\":[\"x\",\"100x3x0/0\",6]}\n{\"id\":4,\"method\":\"askrene-bias-channel\",\"params\":[\"x\",\"100x2x0/0\",1]}\n{\"id\":5,\"method\":\"askrene-update-channel\",\"params\":{\"layer\":\"x\",\"short_channel_id_dir\":\"100x3x0/0\",\"fee_base_msat\":7}}\n{\"id\":6,\"method\":\"askrene-update-channel\",\"params\":{\"layer\":\"x\",\"short_channel_id_dir\":\"100x3x0/0\",\"fee_proportional_millionths\":9}}\n{\"id\":7,\"method\":\"askrene-listlayers\",\"params\":{}}\n{\"id\":8,\"method\":\"askrene-remove-layer\",\"params\":[\"x\"]}\n{\"id\":9,\"method\":\"askrene-listlayers\",\"params\":[null]}\n{\"id\":10,\"method\":\"askrene-age\",\"params\":[\"x\",1]}",
+        "{\"id\":1,\"jsonrpc\":\"2.0\",\"result\":{\"at\":0}}\n{\"id\":2,\"jsonrpc\":\"2.0\",\"result\":{\"at\":1}}\n{\"id\":3,\"jsonrpc\":\"2.0\",\"result\":{\"at\":2}}\n{\"id\":4,\"jsonrpc\":\"2.0\",\"result\":{\"at\":3}}\n{\"id\":5,\"jsonrpc\":\"2.0\",\"result\":{\"at\":4}}\n{\"id\":6,\"jsonrpc\":\"2.0\",\"result\":{\"at\":5}}\n{\"id\":7,\"jsonrpc\":\"2.0\",\"result\":{\"at\":6,\"layers\":[{\"biases\":[{\"bias\":6,\"short_channel_id_dir\":\"100x3x0/0\"},{\"bias\":1,\"short_channel_id_dir\":\"100x2x0/0\"}],\"channel_updates\":[{\"fee_base_msat\":7,\"fee_proportional_millionths\":9,\"short_channel_id_dir\":\"100x3x0/0\"}],\"constraints\":[],\"created_channels\":[],\"disabled_nodes\":[],\"layer\":\"x\"}]}}\n{\"id\":8,\"jsonrpc\":\"2.0\",\"result\":{\"at\":7}}\n{\"id\":9,\"jsonrpc\":\"2.0\",\"result\":{\"at\":8,\"layers\":[]}}\n{\"error\":{\"code\":302,\"data\":{\"at\":9,\"layer\":\"x\"},\"message\":\"unknown layer\"},\"id\":10,\"jsonrpc\":\"2.0\"}\n",
+    ),
+    (
+        "{\"id\":1,\"method\":\"askrene-create-layer\",\"params\":[\"x\"]}\n{\"id\":2,\"method\":\"askrene-inform-channel\",\"params\":[\"x\",\"100x3x0/0\",7,\"unconstrained\"]}\n{\"id\":3,\"method\":\"askrene-inform-channel\",\"params\":[\"x\",\"100x3x0/0\",\"7msat\",\"constrained\"]}\n{\"id\":4,\"method\":\"askrene-inform-channel\",\"params\":[\"x\",\"100x3x0/0\",7,\"succeeded\"]}\n{\"id\":5,\"method\":\"askrene-age\",\"params\":[\"x\",130]}\n{\"id\":6,\"method\":\"askrene-age\",\"params\":[\"x\",131]}",
+        "{\"id\":1,\"jsonrpc\":\"2.0\",\"result\":{\"at\":0}}\n{\"id\":2,\"jsonrpc\":\"2.0\",\"result\":{\"at\":1,\"constraints\":[{\"minimum_msat\":7,\"short_channel_id_dir\":\"100x3x0/0\",\"timestamp\":130}]}}\n{\"id\":3,\"jsonrpc\":\"2.0\",\"result\":{\"at\":2,\"constraints\":[{\"maximum_msat\":6,\"short_channel_id_dir\":\"100x3x0/0\",\"timestamp\":130}]}}\n{\"id\":4,\"jsonrpc\":\"2.0\",\"result\":{\"at\":3,\"constraints\":[]}}\n{\"id\":5,\"jsonrpc\":\"2.0\",\"result\":{\"at\":4,\"num_removed\":0}}\n{\"id\":6,\"jsonrpc\":\"2.0\",\"result\":{\"at\":5,\"num_removed\":2}}\n",
+    ),
+    (
+        "{\"id\":1,\"method\":\"askrene-reserve\",\"params\":{\"path\":[{\"short_channel_id_dir\":\"100x1x0/0\",\"amount_msat\":5}]}}\n{\"id\":2,\"method\":\"askrene-listreservations\"}",
+        "{\"id\":1,\"jsonrpc\":\"2.0\",\"result\":{\"at\":0}}\n{\"id\":2,\"jsonrpc\":\"2.0\",\"result\":{\"at\":1,\"reservations\":[{\"age_in_seconds\":30,\"amount_msat\":5,\"caller\":0,\"short_channel_id_dir\":\"100x1x0/0\"}]}}\n",
+    ),
+];
+
+fn is_replied(alloc: Global, input: &str, output: &str, piece: usize) -> Result<bool, Fail> {
+    let outcome = ask(alloc, input.as_bytes(), piece, &[], &[])?;
+    Ok(outcome.status == Status::Ok && outcome.sink.bytes() == output.as_bytes())
+}
+
 #[test]
 fn lines_get_their_replies(rt: HostRuntime) -> Result<(), Fail> {
-    let rows = [
-        ("", ""),
-        (
-            "{\"id\":1,\"method\":\"askrene-create-layer\",\"params\":{\"layer\":\"x\"}}\n{\"id\":2,\"method\":\"askrene-create-layer\",\"params\":{\"layer\":\"x\"}}",
-            "{\"id\":1,\"jsonrpc\":\"2.0\",\"result\":{\"at\":0}}\n{\"error\":{\"code\":301,\"data\":{\"at\":1,\"layer\":\"x\"},\"message\":\"layer exists\"},\"id\":2,\"jsonrpc\":\"2.0\"}\n",
-        ),
-        (
-            "\n{\"method\":\"askrene-create-layer\",\"params\":[\"x\"]}\n \r\n",
-            "{\"id\":null,\"jsonrpc\":\"2.0\",\"result\":{\"at\":0}}\n",
-        ),
-        (
-            "{\"id\":1,\"method\":\"askrene-create-layer\",\"params\":[\"x\"]}\n{\"id\":2,\"method\":\"askrene-bias-channel\",\"params\":[\"x\",\"100x3x0/0\",5]}\n{\"id\":3,\"method\":\"askrene-disable-node\",\"params\":{\"node\":\"02BBBBBBBBBBBBBBBBBBBBBBBBBBBBBBBBBBBBBBBBBBBBBBBBBBBBBBBBBBBBBBBB\",\"layer\":\"x\"}}\n{\"id\":4,\"method\":\"askrene-listlayers\",\"params\":[\"x\"]}",
-            "{\"id\":1,\"jsonrpc\":\"2.0\",\"result\":{\"at\":0}}\n{\"id\":2,\"jsonrpc\":\"2.0\",\"result\":{\"at\":1}}\n{\"id\":3,\"jsonrpc\":\"2.0\",\"result\":{\"at\":2}}\n{\"id\":4,\"jsonrpc\":\"2.0\",\"result\":{\"at\":3,\"layers\":[{\"biases\":[{\"bias\":5,\"short_channel_id_dir\":\"100x3x0/0\"}],\"channel_updates\":[],\"constraints\":[],\"created_channels\":[],\"disabled_nodes\":[\"02bbbbbbbbbbbbbbbbbbbbbbbbbbbbbbbbbbbbbbbbbbbbbbbbbbbbbbbbbbbbbbbb\"],\"layer\":\"x\"}]}}\n",
-        ),
-        (
-            "{\"id\":1,\"method\":\"askrene-create-layer\",\"params\":[\"x\"]}\n{\"id\":2,\"method\":\"askrene-bias-channel\",\"params\":[\"x\",\"100x3x0/0\",5]}\n{\"id\":3,\"method\":\"askrene-bias-channel\",\"params\":[\"x\",\"100x3x0/0\",6]}\n{\"id\":4,\"method\":\"askrene-bias-channel\",\"params\":[\"x\",\"100x2x0/0\",1]}\n{\"id\":5,\"method\":\"askrene-update-channel\",\"params\":{\"layer\":\"x\",\"short_channel_id_dir\":\"100x3x0/0\",\"fee_base_msat\":7}}\n{\"id\":6,\"method\":\"askrene-update-channel\",\"params\":{\"layer\":\"x\",\"short_channel_id_dir\":\"100x3x0/0\",\"fee_proportional_millionths\":9}}\n{\"id\":7,\"method\":\"askrene-listlayers\",\"params\":{}}\n{\"id\":8,\"method\":\"askrene-remove-layer\",\"params\":[\"x\"]}\n{\"id\":9,\"method\":\"askrene-listlayers\",\"params\":[null]}\n{\"id\":10,\"method\":\"askrene-age\",\"params\":[\"x\",1]}",
-            "{\"id\":1,\"jsonrpc\":\"2.0\",\"result\":{\"at\":0}}\n{\"id\":2,\"jsonrpc\":\"2.0\",\"result\":{\"at\":1}}\n{\"id\":3,\"jsonrpc\":\"2.0\",\"result\":{\"at\":2}}\n{\"id\":4,\"jsonrpc\":\"2.0\",\"result\":{\"at\":3}}\n{\"id\":5,\"jsonrpc\":\"2.0\",\"result\":{\"at\":4}}\n{\"id\":6,\"jsonrpc\":\"2.0\",\"result\":{\"at\":5}}\n{\"id\":7,\"jsonrpc\":\"2.0\",\"result\":{\"at\":6,\"layers\":[{\"biases\":[{\"bias\":6,\"short_channel_id_dir\":\"100x3x0/0\"},{\"bias\":1,\"short_channel_id_dir\":\"100x2x0/0\"}],\"channel_updates\":[{\"fee_base_msat\":7,\"fee_proportional_millionths\":9,\"short_channel_id_dir\":\"100x3x0/0\"}],\"constraints\":[],\"created_channels\":[],\"disabled_nodes\":[],\"layer\":\"x\"}]}}\n{\"id\":8,\"jsonrpc\":\"2.0\",\"result\":{\"at\":7}}\n{\"id\":9,\"jsonrpc\":\"2.0\",\"result\":{\"at\":8,\"layers\":[]}}\n{\"error\":{\"code\":302,\"data\":{\"at\":9,\"layer\":\"x\"},\"message\":\"unknown layer\"},\"id\":10,\"jsonrpc\":\"2.0\"}\n",
-        ),
-        (
-            "{\"id\":1,\"method\":\"askrene-create-layer\",\"params\":[\"x\"]}\n{\"id\":2,\"method\":\"askrene-inform-channel\",\"params\":[\"x\",\"100x3x0/0\",7,\"unconstrained\"]}\n{\"id\":3,\"method\":\"askrene-inform-channel\",\"params\":[\"x\",\"100x3x0/0\",\"7msat\",\"constrained\"]}\n{\"id\":4,\"method\":\"askrene-inform-channel\",\"params\":[\"x\",\"100x3x0/0\",7,\"succeeded\"]}\n{\"id\":5,\"method\":\"askrene-age\",\"params\":[\"x\",130]}\n{\"id\":6,\"method\":\"askrene-age\",\"params\":[\"x\",131]}",
-            "{\"id\":1,\"jsonrpc\":\"2.0\",\"result\":{\"at\":0}}\n{\"id\":2,\"jsonrpc\":\"2.0\",\"result\":{\"at\":1,\"constraints\":[{\"minimum_msat\":7,\"short_channel_id_dir\":\"100x3x0/0\",\"timestamp\":130}]}}\n{\"id\":3,\"jsonrpc\":\"2.0\",\"result\":{\"at\":2,\"constraints\":[{\"maximum_msat\":6,\"short_channel_id_dir\":\"100x3x0/0\",\"timestamp\":130}]}}\n{\"id\":4,\"jsonrpc\":\"2.0\",\"result\":{\"at\":3,\"constraints\":[]}}\n{\"id\":5,\"jsonrpc\":\"2.0\",\"result\":{\"at\":4,\"num_removed\":0}}\n{\"id\":6,\"jsonrpc\":\"2.0\",\"result\":{\"at\":5,\"num_removed\":2}}\n",
-        ),
-    ];
-    for (input, output) in rows {
-        for piece in [1, 7, 65_536] {
-            let outcome = ask(rt.alloc(), input.as_bytes(), piece, &[], &[])?;
-            assert_eq!(rt; outcome.status, Status::Ok);
-            assert!(rt; outcome.sink.bytes() == output.as_bytes(), "{input}");
-        }
+    for (input, output) in REPLIES {
+        assert!(rt; is_replied(rt.alloc(), input, output, 1)?, "{input}");
+        assert!(rt; is_replied(rt.alloc(), input, output, 7)?, "{input}");
+        assert!(rt; is_replied(rt.alloc(), input, output, 65_536)?, "{input}");
     }
+    Ok(())
+}
+
+/// Room for 5 units where 6 are asked for.
+const CUT: &str = "askrene-certificate 1
+cut 2 1 0 1 6
+arc 0 1 5 1
+side 1
+side 0
+end
+";
+
+fn is_checked(
+    alloc: Global,
+    input: &str,
+    reads: &[u64],
+    writes: &[u64],
+    status: Status,
+    output: &str,
+) -> Result<bool, Fail> {
+    let outcome = go(alloc, "check", input.as_bytes(), 32, reads, writes)?;
+    Ok(outcome.status == status && outcome.sink.bytes() == output.as_bytes())
+}
+
+#[test]
+fn certificates_are_checked(rt: HostRuntime) -> Result<(), Fail> {
+    let alloc = rt.alloc();
+    assert!(rt; is_checked(alloc, CUT, &[], &[], Status::Ok, "no-flow\n")?);
+    assert!(rt; is_checked(alloc, "?", &[], &[], Status::CheckNo, "unreadable 1\n")?);
+    assert!(rt; is_checked(alloc, CUT, &[1], &[], Status::ReadFault, "")?);
+    assert!(rt; is_checked(alloc, CUT, &[], &[0], Status::WriteFault, "")?);
+    assert_eq!(rt; Status::CheckNo.code(), 7);
     Ok(())
 }
 

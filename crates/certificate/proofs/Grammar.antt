@@ -1,21 +1,20 @@
 -- Each line is read exactly where the grammar has it.
-use Rattle.std.proofs.Common.{rules, ℕ, zero, suc, ◌+◌, ◌-◌, ◌*◌, ◌^◌, ◌<◌, ◌≤◌, ◌≡◌, ◌≢◌, Bool, List, [], ◌∷◌, ◌++◌, true, false, cond, length, take, drop, get_or, Option, Some, None, refl, sym, ap, ◌∙◌, subst, arith, append_assoc}
+use Rattle.std.proofs.Common.{ℕ, zero, suc, ◌-◌, ◌^◌, ◌<◌, ◌≤◌, ◌≡◌, Bool, List, [], ◌∷◌, ◌++◌, true, false, cond, drop, get_or, Option, Some, None, refl, sym, ap, ◌∙◌, subst, arith, append_assoc}
 use Rattle.std.specs.Prelude.{◌==◌, decimal, codes, nat_lt, slice_index, ℤ, pos, negsuc, ◌-ℤ◌, option_map}
 use Rattle.std.specs.Fmt.{signed_decimal}
-use Rattle.std.proofs.lemmas.Bool.{eqb-true, eq-eqb, eqb-false, ne_eqb, ltb-false, le-ltb}
-use Rattle.std.proofs.lemmas.Option.{none-some, same_Some}
+use Rattle.std.proofs.lemmas.Bool.{eqb-true, eqb-false, ne_eqb, ltb-false, le-ltb}
+use Rattle.std.proofs.lemmas.Option.{none-some}
 use Rattle.std.proofs.lemmas.Int.{ints}
 use Rattle.plan_base.specs.declared.amount.TheConstants.{MAX}
-use Rattle.flow_model.specs.declared.instance.Arc.{Arc}
 use Rattle.flow_model.specs.Instance.{IsGoodArc}
 use Rattle.flow_model.specs.Potentials.{IsSmall}
-use Rattle.certificate.specs.declared.limits.TheConstants.{VERSION, MOST_ARCS, MOST_NODES, MOST_COST, AMOUNT_DIGITS, POTENTIAL_DIGITS, MOST_POTENTIAL}
+use Rattle.certificate.specs.declared.limits.TheConstants.{VERSION, MOST_ARCS, MOST_NODES, MOST_COST, POTENTIAL_DIGITS, MOST_POTENTIAL}
 use Rattle.certificate.specs.declared.cert.CertArc.{CertArc}
 use Rattle.certificate.specs.declared.problem.Problem.{Problem}
 use Rattle.certificate.specs.declared.problem.Kind.{Kind}
 use Rattle.certificate.specs.declared.problem.Kind.TheVariants as Kinds
 use Rattle.certificate.specs.Cert.{arc_of, IsGoodProblem}
-use Rattle.certificate.specs.Text.{fields, line_of, head_line, arc_line, potential_line, side_line, end_line}
+use Rattle.certificate.specs.Text.{fields, head_line, arc_line, potential_line, side_line, end_line}
 use Rattle.certificate.specs.Reading.{read_head, read_kind, read_problem, read_units, read_arc, read_negative, read_signed, read_potential, read_side, read_end, read_field, read_word, read_byte, read_number}
 use Rattle.certificate.proofs.Chains.{cond_some, cond_none, and_then_some, same_parts}
 use Rattle.std.proofs.lemmas.Fmt.{decimal_is_IsNumeral_wide}

@@ -14,3 +14,4 @@ pub mod Tallied
 pub mod Found
 pub mod Verdicts
 pub mod Printed
+pub mod Passes

@@ -1,6 +1,6 @@
 -- What is printed is the certificate's text.
-use Rattle.std.proofs.Common.{ℕ, zero, suc, ◌+◌, ◌-◌, ◌<◌, ◌≤◌, ◌≡◌, List, [], ◌∷◌, ◌++◌, length, map, take, drop, get_or, refl, sym, ap, ◌∙◌, subst, arith, append_assoc}
-use Rattle.std.specs.Prelude.{All, zip, decimal, slice_index_or}
+use Rattle.std.proofs.Common.{ℕ, suc, ◌+◌, ◌<◌, ◌≤◌, ◌≡◌, List, [], ◌∷◌, ◌++◌, length, map, take, drop, get_or, refl, sym, ap, ◌∙◌, arith, append_assoc}
+use Rattle.std.specs.Prelude.{zip, decimal}
 use Rattle.std.specs.List.{concat}
 use Rattle.std.proofs.Math.Seq.{drop-cons}
 use Rattle.std.proofs.lemmas.List.{append-nil, take_more, take_all, length-map, map-append}
@@ -11,8 +11,8 @@ use Rattle.flow_model.specs.declared.solve.Solved.{Solved}
 use Rattle.flow_model.specs.declared.solve.Solved.TheVariants.{Flow, Cut}
 use Rattle.flow_model.specs.Instance.{Net, IsInstance, IsGoodArc}
 use Rattle.certificate.specs.declared.limits.TheConstants.{MOST_ARCS, MOST_NODES}
-use Rattle.certificate.specs.Certificate.{Certificate, IsCertificate, IsAnswerFor, without_directions}
-use Rattle.certificate.specs.Text.{fields, arc_line, problem_line, certificate_text, certificate_lines, arc_lines, kind_of, node_lines, head_line, end_line}
+use Rattle.certificate.specs.Certificate.{IsCertificate, IsAnswerFor, without_directions}
+use Rattle.certificate.specs.Text.{fields, arc_line, problem_line, certificate_text, arc_lines, kind_of, node_lines, head_line, end_line}
 
 pub three : (old a b c : List ℕ) → old ++ a ++ b ++ c ≡ old ++ (a ++ (b ++ c))
 three old a b c = append_assoc (old ++ a) b c ∙ append_assoc old a (b ++ c)

@@ -1,6 +1,6 @@
 -- The balances of nodes, kept while the arcs are gone through.
-use Rattle.std.proofs.Common.{ℕ, ◌+◌, ◌*◌, ◌<◌, ◌≤◌, ◌≡◌, ◌^◌, Bool, true, false, cond, List, [], sym, refl, ap, ◌∙◌, subst, ⊎_elim, arith, length}
-use Rattle.std.specs.Prelude.{All, take, set, nat_eq, slice_index_or, sum_by, pos, ℤ, ◌+ℤ◌, ◌-ℤ◌, ◌≤ℤ◌}
+use Rattle.std.proofs.Common.{ℕ, ◌+◌, ◌*◌, ◌<◌, ◌≤◌, ◌≡◌, ◌^◌, Bool, true, false, cond, List, sym, ap, ◌∙◌, subst, ⊎_elim, arith, length}
+use Rattle.std.specs.Prelude.{take, set, nat_eq, slice_index_or, pos, ℤ, ◌+ℤ◌, ◌-ℤ◌, ◌≤ℤ◌}
 use Rattle.std.proofs.lemmas.Bool.{cases_eq}
 use Rattle.std.proofs.lemmas.List.{get_or-set_same, get_or-set_other, take_all}
 use Rattle.std.proofs.lemmas.List.Sums.{sum_by_more}

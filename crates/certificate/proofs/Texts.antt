@@ -1,8 +1,8 @@
 -- Whole texts: what is read is the one certificate with that text, and a fault is the first line that is in none.
-use Rattle.std.proofs.Common.{rules, ℕ, zero, suc, ◌+◌, ◌-◌, ◌<◌, ◌≤◌, ◌≡◌, ◌≢◌, List, [], ◌∷◌, ◌++◌, length, map, take, Option, Some, None, Result, Ok, Err, refl, sym, ap, ◌∙◌, subst, arith, append_assoc}
+use Rattle.std.proofs.Common.{ℕ, zero, suc, ◌+◌, ◌-◌, ◌<◌, ◌≤◌, ◌≡◌, List, [], ◌∷◌, ◌++◌, length, take, Option, Some, Ok, Err, refl, sym, ap, ◌∙◌, subst, arith, append_assoc}
 use Rattle.std.specs.Prelude.{ℤ, Bool, All, pos, false}
 use Rattle.std.specs.List.{concat}
-use Rattle.std.proofs.lemmas.List.{append-nil, take_all}
+use Rattle.std.proofs.lemmas.List.{append-nil}
 use Rattle.flow_model.specs.declared.solve.Solved.{Solved}
 use Rattle.flow_model.specs.declared.solve.Solved.TheVariants.{Flow, Cut}
 use Rattle.flow_model.specs.Instance.{Net}
@@ -17,13 +17,13 @@ use Rattle.certificate.specs.Certificate.{Certificate, IsCertificate}
 use Rattle.certificate.specs.Text.{head_line, potential_line, side_line, certificate_lines, certificate_text}
 use Rattle.certificate.specs.Line.{BeginsLike, IsFirstBadLine}
 use Rattle.certificate.specs.Laws.{TextIsReadBack}
-use Rattle.certificate.specs.Reading.{Read, read_text, read_head, read_kind, read_problem, read_body, read_potential, read_side, read_lines, read_arc, read_answer, then_read, or_line}
+use Rattle.certificate.specs.Reading.{read_text, read_head, read_kind, read_problem, read_body, read_potential, read_side, read_lines, read_arc, read_answer, then_read, or_line}
 use Rattle.certificate.specs.Cert.{IsGoodProblem, net_of}
 use Rattle.certificate.proofs.Outcomes.{ok-err, same_Ok, then_ok, then_err, or_line_ok, or_line_err}
 use Rattle.certificate.proofs.Grammar.{IsGoodLine, load_line, read_arc_sound, read_arc_complete, kind_word, problem_fields, read_head_sound, read_head_complete, read_kind_sound, read_kind_complete, read_problem_sound, read_problem_complete, read_potential_sound, read_potential_complete, read_side_sound, read_side_complete}
 use Rattle.certificate.proofs.ManyLines.{lines_sound}
-use Rattle.certificate.proofs.Bodies.{body_lines, IsBody, read_parts, body_sound, body_complete, body_failed, body_later, length-body_lines}
-use Rattle.certificate.proofs.Shapes.{flow_cert, cut_cert, IsAnyBool, flow_lines, cut_lines, read_flow, read_cut, flow_is_certificate, cut_is_certificate, IsFlowForm, flow_form, IsCutForm, cut_form}
+use Rattle.certificate.proofs.Bodies.{body_lines, IsBody, read_parts, body_sound, body_complete, body_failed, body_later}
+use Rattle.certificate.proofs.Shapes.{flow_cert, cut_cert, IsAnyBool, flow_lines, cut_lines, read_flow, read_cut, flow_is_certificate, cut_is_certificate, flow_form, cut_form}
 
 abbrev behind_head : Kind → Problem → List ℕ → List ℕ
 behind_head kind p text = kind_word kind ++ (problem_fields p ++ text)

@@ -1,11 +1,10 @@
 -- What the check finds over the arcs in code is what it answers of the certificate, and its verdict is true.
-use Rattle.std.proofs.Common.{ℕ, zero, suc, ◌+◌, ◌-◌, ◌*◌, ◌^◌, ◌<◌, ◌≤◌, ◌≡◌, Bool, true, false, cond, List, [], ◌∷◌, length, map, get_or, Option, Some, None, refl, sym, ap, ◌∙◌, subst, arith}
-use Rattle.std.specs.Prelude.{All, zip, sum_by, position, ℤ, pos, ◌+ℤ◌, ◌-ℤ◌, ◌≤ℤ◌, slice_index_or, not, ◌&&◌, ◌||◌, ◌==◌, nat_eq, nat_lt, nat_le, int_lt, T}
+use Rattle.std.proofs.Common.{ℕ, zero, suc, ◌+◌, ◌^◌, ◌<◌, ◌≤◌, ◌≡◌, Bool, true, false, cond, List, [], ◌∷◌, length, map, Option, Some, None, refl, sym, ap, ◌∙◌, subst, arith}
+use Rattle.std.specs.Prelude.{All, zip, sum_by, position, ℤ, pos, ◌-ℤ◌, ◌≤ℤ◌, slice_index_or, not, ◌&&◌, ◌||◌, ◌==◌, nat_eq, nat_le, int_lt, T}
 use Rattle.std.specs.Ordering.{int_eq}
-use Rattle.std.proofs.lemmas.Bool.{false≢true, eqb-true, eqb-false, eq-eqb, ne_eqb, ltb-false, lt-ltb, leb-false}
+use Rattle.std.proofs.lemmas.Bool.{false≢true, eq-eqb, ne_eqb, ltb-false, lt-ltb, leb-false}
 use Rattle.std.specs.Int.Signed.{lt_z_no}
 use Rattle.std.proofs.lemmas.Bool.Decides.{Decides-int_eq}
-use Rattle.std.proofs.lemmas.Option.{none-some}
 use Rattle.std.proofs.lemmas.Int.{ints}
 use Rattle.std.proofs.lemmas.List.{length-map}
 use Rattle.std.proofs.lemmas.List.Sums.{sum_by-cons, sum_by-le}
@@ -14,10 +13,10 @@ use Rattle.plan_base.specs.declared.amount.TheConstants.{MAX}
 use Rattle.flow_model.specs.declared.instance.Arc.{Arc}
 use Rattle.flow_model.specs.declared.solve.Solved.{Solved}
 use Rattle.flow_model.specs.declared.solve.Solved.TheVariants.{Flow, Cut}
-use Rattle.flow_model.specs.Instance.{Net, IsNet}
+use Rattle.flow_model.specs.Instance.{Net}
 use Rattle.flow_model.specs.Flow.{loads, leaving, entering, IsFeasible, IsCheapest}
-use Rattle.flow_model.specs.Potentials.{reduced_cost, ShowsCheapest, IsShown}
-use Rattle.flow_model.specs.Side.{on_side, crossing, Cuts}
+use Rattle.flow_model.specs.Potentials.{reduced_cost, IsShown}
+use Rattle.flow_model.specs.Side.{on_side, crossing}
 use Rattle.flow_model.proofs.Duality.{shown_is_cheapest, cut_has_no_flow}
 use Rattle.certificate.specs.declared.limits.TheConstants.{MOST_ARCS}
 use Rattle.certificate.specs.declared.cert.CertArc.{CertArc}
@@ -26,7 +25,7 @@ use Rattle.certificate.specs.declared.verdict.Verdict.{Verdict}
 use Rattle.certificate.specs.declared.verdict.Verdict.TheVariants.{Cheapest, NoFlow, No}
 use Rattle.certificate.specs.Certificate.{Certificate, IsCertificate}
 use Rattle.certificate.specs.Cert.{arc_of, net_of, Tallies}
-use Rattle.certificate.specs.Check.{due, is_over, is_uneven, is_missed, gains, loses, first_below, no_at, flow_verdict, cut_verdict, verdict_for, verdict_of, IsTrueOf}
+use Rattle.certificate.specs.Check.{due, is_over, is_uneven, is_missed, gains, loses, first_below, no_at, flow_verdict, verdict_for, verdict_of, IsTrueOf}
 use Rattle.certificate.specs.Search.{is_over_arc, is_missed_arc, is_uneven_at, room_left}
 use Rattle.certificate.proofs.Found.{below_same, below_None, position_None, position-map}
 

@@ -1,10 +1,10 @@
 -- Words, and numbers behind a space, are read exactly where they stand.
-use Rattle.std.proofs.Common.{rules, ℕ, zero, suc, ◌+◌, ◌-◌, ◌*◌, ◌^◌, ◌<◌, ◌≤◌, ◌≡◌, Bool, List, [], ◌∷◌, ◌++◌, true, false, cond, length, take, drop, get_or, Option, Some, None, refl, sym, ap, ◌∙◌, subst, arith, append_assoc, take-append-drop}
+use Rattle.std.proofs.Common.{ℕ, ◌^◌, ◌<◌, ◌≤◌, ◌≡◌, List, [], ◌∷◌, ◌++◌, true, cond, length, take, drop, Some, None, refl, sym, ap, ◌∙◌, arith, append_assoc, take-append-drop}
 use Rattle.std.specs.Prelude.{◌&&◌, ◌==◌, decimal, nat_eq}
 use Rattle.std.specs.List.{starts_with}
 use Rattle.std.specs.Cmp.Lexicographic.{pointwise, same_text}
-use Rattle.std.proofs.lemmas.Bool.{and_parts, eqb-true, eq-eqb}
-use Rattle.std.proofs.lemmas.Option.{none-some, same_Some}
+use Rattle.std.proofs.lemmas.Bool.{eqb-true, eq-eqb}
+use Rattle.std.proofs.lemmas.Option.{none-some}
 use Rattle.std.proofs.lemmas.List.{take_at, drop_at}
 use Rattle.certificate.specs.Text.{fields}
 use Rattle.certificate.specs.Reading.{read_word, read_byte, read_number, read_field}

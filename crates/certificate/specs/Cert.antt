@@ -1,5 +1,5 @@
 -- A certificate's fields in code, seen as a certificate.
-use Rattle.std.specs.Prelude.{ℕ, ◌+◌, ◌<◌, ◌≤◌, ◌≡◌, ◌≢◌, ◌-◌, List, length, map, All, sum_by, cond, nat_eq, ℤ, pos, ◌-ℤ◌, slice_index_or}
+use Rattle.std.specs.Prelude.{ℕ, ◌<◌, ◌≤◌, ◌≡◌, ◌≢◌, ◌-◌, List, length, map, sum_by, cond, nat_eq, ℤ, pos, ◌-ℤ◌, slice_index_or}
 use Rattle.plan_base.specs.declared.amount.TheConstants.{MAX}
 use Rattle.certificate.specs.declared.limits.TheConstants.{MOST_ARCS, MOST_NODES}
 use Rattle.certificate.specs.declared.cert.CertArc.{CertArc}

@@ -1,5 +1,5 @@
 -- What a certificate says: an instance, and a flow with potentials or a side.
-use Rattle.std.specs.Prelude.{ℕ, ◌<◌, ◌≤◌, ◌≡◌, List, length, map, All, Bool, ℤ, Option, Some, None, option_map}
+use Rattle.std.specs.Prelude.{ℕ, ◌≤◌, ◌≡◌, List, length, map, All, Bool, ℤ, Option, Some, None, option_map}
 use Rattle.std.specs.Borrow.{Bor}
 use Rattle.plan_base.specs.declared.amount.TheConstants.{MAX}
 use Rattle.certificate.specs.declared.limits.TheConstants.{MOST_ARCS, MOST_NODES}

@@ -1,12 +1,40 @@
 use plan_base::NoMemory;
 use std::alloc::{AllocError, AllocFailed};
+use std::error::Error;
+use std::fmt;
 
 /// Why a text isn't read.
 #[derive(Clone, Copy, Debug, PartialEq, Eq)]
 pub enum CertFault {
-    /// The first line, counted from 1, that isn't in the grammar; a line that is missing counts.
-    Line { line: u64 },
+    /// The text is no certificate.
+    Line {
+        /// The first line, counted from 1, that isn't in the grammar; a line that is missing counts.
+        line: u64,
+    },
+    /// The allocator had no memory.
     NoMemory,
+}
+
+impl fmt::Display for CertFault {
+    fn fmt<W: fmt::Write>(&self, f: &mut fmt::Formatter<W>) -> fmt::Result {
+        match self {
+            CertFault::Line { line } => write!(f, "no certificate from line {line} on"),
+            CertFault::NoMemory => f.write_str("out of memory"),
+        }
+    }
+}
+
+impl Error for CertFault {}
+
+impl From<NoMemory> for CertFault {
+    ghost use Rattle.std.specs.Prelude.{◌≡◌};
+    ghost use Rattle.certificate.specs.declared.fault.CertFault.TheVariants.{NoMemory};
+
+    ghost from_gives = { λ _ e. e ≡ NoMemory };
+
+    fn from(_: NoMemory) -> Self {
+        CertFault::NoMemory
+    }
 }
 
 impl From<AllocError> for CertFault {
@@ -35,20 +63,31 @@ impl<T: Drop> From<AllocFailed<T>> for CertFault {
 #[derive(Clone, Copy, Debug, PartialEq, Eq)]
 pub enum CertRefusal {
     /// There are more arcs or more nodes than a certificate has.
-    TooLarge { arcs: u64, nodes: u64 },
+    TooLarge {
+        /// How many arcs the instance has.
+        arcs: u64,
+        /// How many nodes it has.
+        nodes: u64,
+    },
+    /// The allocator had no memory.
     NoMemory,
 }
 
-impl From<NoMemory> for CertFault {
-    ghost use Rattle.std.specs.Prelude.{◌≡◌};
-    ghost use Rattle.certificate.specs.declared.fault.CertFault.TheVariants.{NoMemory};
-
-    ghost from_gives = { λ _ e. e ≡ NoMemory };
-
-    fn from(_: NoMemory) -> Self {
-        CertFault::NoMemory
+impl fmt::Display for CertRefusal {
+    fn fmt<W: fmt::Write>(&self, f: &mut fmt::Formatter<W>) -> fmt::Result {
+        match self {
+            CertRefusal::TooLarge { arcs, nodes } => {
+                write!(
+                    f,
+                    "{arcs} arcs and {nodes} nodes are too many for a certificate"
+                )
+            }
+            CertRefusal::NoMemory => f.write_str("out of memory"),
+        }
     }
 }
+
+impl Error for CertRefusal {}
 
 impl From<NoMemory> for CertRefusal {
     ghost use Rattle.std.specs.Prelude.{◌≡◌};

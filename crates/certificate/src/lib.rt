@@ -18,7 +18,7 @@ mod verdict;
 
 pub use cert::Cert;
 pub use fault::{CertFault, CertRefusal};
-pub use law::text_is_read_back;
+pub use law::{cut_passes, shown_passes, text_is_read_back};
 pub use limits::{MOST_ARCS, MOST_NODES};
 pub use print::{print_cut, print_flow};
 pub use reader::read;

@@ -75,7 +75,7 @@ fn flow_text(
     let mut text = Vec::new(alloc);
     first_line(&mut text)?;
     problem(&mut text, b"flow", instance)?;
-    loads(&mut text, instance.arcs(), units)?;
+    load_lines(&mut text, instance.arcs(), units)?;
     potential_lines(&mut text, potentials)?;
     last_line(&mut text)?;
     Ok(text)
@@ -87,7 +87,7 @@ fn cut_text(alloc: Global, instance: &Instance, side: &[bool]) -> Result<Vec<u8>
     let mut text = Vec::new(alloc);
     first_line(&mut text)?;
     problem(&mut text, b"cut", instance)?;
-    rooms(&mut text, instance.arcs())?;
+    arc_lines(&mut text, instance.arcs())?;
     side_lines(&mut text, side)?;
     last_line(&mut text)?;
     Ok(text)
@@ -117,19 +117,19 @@ fn problem(text: &mut Vec<u8>, kind: &[u8], instance: &Instance) -> Result<(), N
 }
 
 /// The lines of arcs with their units.
-fn loads(text: &mut Vec<u8>, arcs: &[Arc], units: &[u64]) -> Result<(), NoMemory>
+fn load_lines(text: &mut Vec<u8>, arcs: &[Arc], units: &[u64]) -> Result<(), NoMemory>
     requires { length units.now ≡ length arcs.now }
     ensures { OnOk result (text.new.items ≡ text.old.items ++ concat (map (λ (l : Arc × ℕ). Text.arc_line l.0 (l.1 ∷ [])) (zip arcs.now units.now))) }
 {
     for i in 0..arcs.len() {
-        load(text, &arcs[i], units[i])?;
+        load_line(text, &arcs[i], units[i])?;
     }
     Ok(())
 }
 
 /// The line of an arc with its units.
 #[tactic(auto, unfolding(crate::specs::Text::arc_line))]
-fn load(text: &mut Vec<u8>, arc: &Arc, units: u64) -> Result<(), NoMemory>
+fn load_line(text: &mut Vec<u8>, arc: &Arc, units: u64) -> Result<(), NoMemory>
     ensures { OnOk result (text.new.items ≡ text.old.items ++ Text.arc_line arc.now (units ∷ [])) }
 {
     line(
@@ -146,18 +146,18 @@ fn load(text: &mut Vec<u8>, arc: &Arc, units: u64) -> Result<(), NoMemory>
 }
 
 /// The lines of arcs.
-fn rooms(text: &mut Vec<u8>, arcs: &[Arc]) -> Result<(), NoMemory>
+fn arc_lines(text: &mut Vec<u8>, arcs: &[Arc]) -> Result<(), NoMemory>
     ensures { OnOk result (text.new.items ≡ text.old.items ++ concat (map (λ (a : Arc). Text.arc_line a []) arcs.now)) }
 {
     for i in 0..arcs.len() {
-        room(text, &arcs[i])?;
+        arc_line(text, &arcs[i])?;
     }
     Ok(())
 }
 
 /// The line of an arc.
 #[tactic(auto, unfolding(crate::specs::Text::arc_line))]
-fn room(text: &mut Vec<u8>, arc: &Arc) -> Result<(), NoMemory>
+fn arc_line(text: &mut Vec<u8>, arc: &Arc) -> Result<(), NoMemory>
     ensures { OnOk result (text.new.items ≡ text.old.items ++ Text.arc_line arc.now []) }
 {
     line(

@@ -30,6 +30,21 @@ potential 1
 end
 ";
 
+/// Two units go round the arc in the middle, over which the cheapest way of one leads.
+const DETOUR: &str = "askrene-certificate 1
+flow 4 5 0 3 2
+arc 0 1 1 1 1
+arc 0 2 1 10 1
+arc 1 2 1 1 0
+arc 1 3 1 10 1
+arc 2 3 1 1 1
+potential 0
+potential 9
+potential 10
+potential 19
+end
+";
+
 /// Room for 5 units where 6 are asked for.
 const CUT: &str = "askrene-certificate 1
 cut 2 1 0 1 6
@@ -63,58 +78,49 @@ fn read_and_check(alloc: Global, text: &[u8]) -> Outcome {
     }
 }
 
-/// A change of a text, and what the changed text comes to.
+/// A piece of a text, what stands in its place, and what the changed text comes to.
 type Change = (&'static str, &'static str, Outcome);
 
-/// The first two lines, the lines of nodes and the end.
-const LINES: [Change; 30] = [
+/// The first line.
+const HEADS: &[Change] = &[
     ("certificate 1", "certificate 2", Unreadable(1)),
+    ("certificate 1", "certificate 10", Unreadable(1)),
     ("certificate 1", "certificate 01", Unreadable(1)),
+    ("certificate 1", "certificate  1", Unreadable(1)),
+    ("certificate 1", "certificate", Unreadable(1)),
+    ("certificate 1\n", "certificate 1\r\n", Unreadable(1)),
+    ("certificate 1\n", "certificate 1", Unreadable(1)),
     ("askrene", "Askrene", Unreadable(1)),
+    ("askrene", "\naskrene", Unreadable(1)),
+];
+
+/// The second line.
+const PROBLEMS: &[Change] = &[
     ("flow 2 6", "flow 02 6", Unreadable(2)),
     ("flow 2", "flow  2", Unreadable(2)),
+    ("flow 2", "flow\t2", Unreadable(2)),
+    ("flow 2", "flow -2", Unreadable(2)),
+    ("flow 2", "flows 2", Unreadable(2)),
     ("flow 2 6 0 1", "flow 1 6 0 1", Unreadable(2)),
     ("flow 2 6 0 1", "flow 2 6 1 1", Unreadable(2)),
     ("flow 2 6 0 1", "flow 2 6 0 2", Unreadable(2)),
-    ("1000000\n", "0\n", Unreadable(2)),
-    ("1000000\n", "2100000000000000001\n", Unreadable(2)),
     ("flow 2 6", "flow 2 262145", Unreadable(2)),
     ("flow 2 6", "flow 262145 6", Unreadable(2)),
+    ("1000000\n", "0\n", Unreadable(2)),
+    ("1000000\n", "2100000000000000000\n", No(9)),
+    ("1000000\n", "2100000000000000001\n", Unreadable(2)),
+    ("1000000\n", "18446744073710551616\n", Unreadable(2)),
+    ("1000000\n", "1000000 1\n", Unreadable(2)),
     ("flow 2 6", "flow 2 5", Unreadable(8)),
     ("flow 2 6", "flow 2 7", Unreadable(9)),
     ("flow 2 6", "flow 3 6", Unreadable(11)),
     ("flow", "cut", Unreadable(3)),
     ("1000000\n", "999999\n", No(9)),
     ("flow 2 6 0 1", "flow 2 6 1 0", No(9)),
-    ("potential 0", "potential -0", Unreadable(9)),
-    ("potential 0", "potential 00", Unreadable(9)),
-    ("potential 0", "potential +0", Unreadable(9)),
-    (
-        "potential 0",
-        "potential 1000000000000000000000000",
-        Unreadable(9),
-    ),
-    (
-        "potential 0",
-        "potential -999999999999999999999999",
-        Cheapest,
-    ),
-    ("potential 0", "potential 1", No(3)),
-    ("potential 255000000001", "potential 255000000000", No(3)),
-    ("end\n", "", Unreadable(11)),
-    ("end\n", "end", Unreadable(11)),
-    ("end\n", "end\n\n", Unreadable(12)),
-    ("end\n", "end\nend\n", Unreadable(12)),
-    ("end", "End", Unreadable(11)),
 ];
 
 /// The lines of arcs.
-const ARCS: [Change; 18] = [
-    (
-        "flow 2 6 0 1 1000000\n",
-        "flow 2 7 0 1 1000000\narc 0 1 5 1 0\n",
-        No(3),
-    ),
+const ARCS: &[Change] = &[
     ("arc 0 1 300000", "arc 0 0 300000", Unreadable(3)),
     ("arc 0 1 300000", "arc 2 1 300000", Unreadable(3)),
     ("arc 0 1 300000 ", "arc 0 1 0 ", Unreadable(3)),
@@ -126,39 +132,122 @@ const ARCS: [Change; 18] = [
     ("255000000001 180000", "0 180000", Unreadable(4)),
     ("255000000001 180000", "2000000000000 180000", Unreadable(4)),
     ("255000000001 180000", "1999999999999 180000", No(4)),
-    (
-        "255000000001 180000",
-        "255000000001 2100000000000000001",
-        Unreadable(4),
-    ),
+    (" 180000\n", " 2100000000000000001\n", Unreadable(4)),
     (" 180000\n", " 180000 \n", Unreadable(4)),
     (" 180000\n", " 180000\r\n", Unreadable(4)),
     (" 180000\n", " 0180000\n", Unreadable(4)),
     (" 180000\n", "\n", Unreadable(4)),
     (" 180000\n", " 180001\n", No(4)),
     (" 180000\n", " 179999\n", No(9)),
+    ("arc 0 1 80000 255000000001 80000\n", "", Unreadable(8)),
+    ("1000000\narc", "1000000\narc 0 1 5 1 0\narc", Unreadable(9)),
+    (
+        "6 0 1 1000000\narc",
+        "7 0 1 1000000\narc 0 1 5 1 0\narc",
+        No(3),
+    ),
     ("arc 0 1 80000 ", "arc 0 1 80001 ", Cheapest),
     (
-        "arc 0 1 80000 255000000001",
-        "arc 0 1 80001 255000000000",
+        "80000 255000000001 80000\n",
+        "80001 255000000000 80000\n",
         No(8),
     ),
     (
-        "arc 0 1 80000 255000000001 80000",
-        "arc 0 1 80000 255000000002 0",
+        "80000 255000000001 80000\n",
+        "80000 255000000000 80000\n",
+        Cheapest,
+    ),
+    (
+        "80000 255000000001 80000\n",
+        "80000 255000000002 80000\n",
+        No(8),
+    ),
+    (
+        "80000 255000000001 80000\n",
+        "80000 255000000002 0\n",
         No(9),
     ),
 ];
 
+/// The lines of potentials.
+const POTENTIALS: &[Change] = &[
+    ("potential 0", "potential -0", Unreadable(9)),
+    ("potential 0", "potential 00", Unreadable(9)),
+    ("potential 0", "potential +0", Unreadable(9)),
+    ("potential 0", "potential -01", Unreadable(9)),
+    ("potential 0", "potential -", Unreadable(9)),
+    ("potential 0", "potential  0", Unreadable(9)),
+    ("potential 0", "side 0", Unreadable(9)),
+    ("potential 0\n", "potential 0", Unreadable(9)),
+    ("potential 0", "potential 999999999999999999999999", No(3)),
+    (
+        "potential 0",
+        "potential 1000000000000000000000000",
+        Unreadable(9),
+    ),
+    (
+        "potential 0",
+        "potential -999999999999999999999999",
+        Cheapest,
+    ),
+    (
+        "potential 0",
+        "potential -1000000000000000000000000",
+        Unreadable(9),
+    ),
+    (
+        "potential 0",
+        "potential 1000000000000000000000000000000000000000",
+        Unreadable(9),
+    ),
+    ("potential 0\n", "", Unreadable(10)),
+    (
+        "potential 0\n",
+        "potential 0\npotential 0\n",
+        Unreadable(11),
+    ),
+    ("potential 0", "potential 1", No(3)),
+    ("potential 255000000001", "potential 255000000000", No(3)),
+    ("potential 255000000001", "potential 255000000002", Cheapest),
+];
+
+/// The last line.
+const ENDS: &[Change] = &[
+    ("end\n", "", Unreadable(11)),
+    ("end\n", "end", Unreadable(11)),
+    ("end\n", "end \n", Unreadable(11)),
+    ("end\n", "end\r\n", Unreadable(11)),
+    ("end", "End", Unreadable(11)),
+    ("end\n", "end\n\n", Unreadable(12)),
+    ("end\n", "end\nend\n", Unreadable(12)),
+    ("end\n", "end\n ", Unreadable(12)),
+];
+
 /// The lines of a cut.
-const SIDES: [Change; 7] = [
+const SIDES: &[Change] = &[
     (" 6\n", " 5\n", No(2)),
+    ("arc 0 1 5", "arc 0 1 6", No(2)),
     ("arc 0 1 5", "arc 1 0 5", NoFlow),
     ("arc 0 1 5 1", "arc 0 1 5 1 0", Unreadable(3)),
+    ("cut", "flow", Unreadable(3)),
+    ("cut 2 1 0 1", "cut 2 1 1 0", No(5)),
+    ("cut 2 1", "cut 3 1", Unreadable(6)),
     ("side 1\nside 0", "side 0\nside 0", No(4)),
     ("side 1\nside 0", "side 1\nside 1", No(5)),
     ("side 1", "side 2", Unreadable(4)),
     ("side 1", "side 01", Unreadable(4)),
+    ("side 1", "side -1", Unreadable(4)),
+    ("side 1", "potential 1", Unreadable(4)),
+    ("side 0\n", "", Unreadable(5)),
+    ("side 0\n", "side 0\nside 0\n", Unreadable(6)),
+];
+
+/// Potentials that don't show the flow, and flows that the arc in the middle can't have.
+const DETOURS: &[Change] = &[
+    ("potential 9", "potential 8", No(5)),
+    ("potential 19", "potential 18", No(6)),
+    ("arc 1 2 1 1 0", "arc 1 2 1 1 1", No(9)),
+    ("arc 1 2 1 1 0", "arc 1 2 1 1 2", No(5)),
 ];
 
 fn changed(alloc: Global, text: &str, change: Change) -> Result<Outcome, NoMemory> {
@@ -167,9 +256,20 @@ fn changed(alloc: Global, text: &str, change: Change) -> Result<Outcome, NoMemor
     Ok(read_and_check(alloc, text.as_bytes()))
 }
 
+/// Whether each change of the text comes to what stands beside it.
+fn all_come_to(alloc: Global, text: &str, changes: &[Change]) -> Result<bool, NoMemory> {
+    for change in changes {
+        if changed(alloc, text, *change)? != change.2 {
+            return Ok(false);
+        }
+    }
+    Ok(true)
+}
+
 #[test]
 fn certificates_are_read_and_checked(rt: HostRuntime) {
     assert!(rt; read_and_check(rt.alloc(), FLOW.as_bytes()) == Cheapest);
+    assert!(rt; read_and_check(rt.alloc(), DETOUR.as_bytes()) == Cheapest);
     assert!(rt; read_and_check(rt.alloc(), CUT.as_bytes()) == NoFlow);
     assert!(rt; read_and_check(rt.alloc(), UNEVEN.as_bytes()) == No(6));
     assert!(rt; read_and_check(rt.alloc(), b"") == Unreadable(1));
@@ -177,15 +277,13 @@ fn certificates_are_read_and_checked(rt: HostRuntime) {
 
 #[test]
 fn a_changed_certificate_names_its_line(rt: HostRuntime) -> Result<(), NoMemory> {
-    for change in LINES {
-        assert!(rt; changed(rt.alloc(), FLOW, change)? == change.2);
-    }
-    for change in ARCS {
-        assert!(rt; changed(rt.alloc(), FLOW, change)? == change.2);
-    }
-    for change in SIDES {
-        assert!(rt; changed(rt.alloc(), CUT, change)? == change.2);
-    }
+    assert!(rt; all_come_to(rt.alloc(), FLOW, HEADS)?);
+    assert!(rt; all_come_to(rt.alloc(), FLOW, PROBLEMS)?);
+    assert!(rt; all_come_to(rt.alloc(), FLOW, ARCS)?);
+    assert!(rt; all_come_to(rt.alloc(), FLOW, POTENTIALS)?);
+    assert!(rt; all_come_to(rt.alloc(), FLOW, ENDS)?);
+    assert!(rt; all_come_to(rt.alloc(), CUT, SIDES)?);
+    assert!(rt; all_come_to(rt.alloc(), DETOUR, DETOURS)?);
     Ok(())
 }
 

@@ -1,5 +1,5 @@
 -- A unit's cost fits 64 bits at each step, and is below 2 * 10^12.
-use Rattle.std.proofs.Common.{ℕ, ◌+◌, ◌-◌, ◌*◌, ◌/◌, ◌^◌, ◌<◌, ◌≤◌, arith}
+use Rattle.std.proofs.Common.{ℕ, ◌+◌, ◌-◌, ◌*◌, ◌^◌, ◌≤◌, arith}
 use Rattle.std.proofs.lemmas.Nat.{mul-le}
 
 pub weighed : (uncertainty weight fee delay hundredths : ℕ) → uncertainty ≤ 10 ^ 9 → weight ≤ 256 → fee ≤ 10 ^ 9 → delay ≤ 65535 * 100000 → hundredths ≤ 200 → (uncertainty * (256 - weight) + fee * weight + delay) * hundredths ≤ (10 ^ 9 * 256 + 65535 * 100000) * 200

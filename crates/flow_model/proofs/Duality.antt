@@ -1,6 +1,6 @@
 -- The two laws of weak duality: potentials bound every cost from below, a side bounds every flow from above.
 use Rattle.std.proofs.Common.{ℕ, ◌+◌, ◌-◌, ◌*◌, ◌<◌, ◌≤◌, ◌≡◌, Bool, true, false, cond, List, [], ◌∷◌, sym, refl, ap, ◌∙◌, subst, ⊎_elim, arith}
-use Rattle.std.specs.Prelude.{All, sum_by, zip, length, not, ◌&&◌, slice_index_or, pos, ℤ, ◌≤ℤ◌}
+use Rattle.std.specs.Prelude.{All, sum_by, zip, length, not, ◌&&◌, slice_index_or, pos, ℤ}
 use Rattle.std.proofs.lemmas.Bool.{cases_lt}
 use Rattle.std.proofs.lemmas.List.Elements.{All-head, All-tail, All-weaker}
 use Rattle.std.proofs.lemmas.List.Sums.{sum_by-cons}

@@ -1,14 +1,16 @@
 -- A flow that fills each direction's arcs in order.
-use Rattle.std.proofs.Common.{ℕ, zero, suc, ◌+◌, ◌-◌, ◌*◌, ◌<◌, ◌≤◌, ◌≡◌, ◌++◌, Bool, true, false, cond, List, [], ◌∷◌, sym, refl, ap, ◌∙◌, subst, ⊎_elim, arith, length}
-use Rattle.std.specs.Prelude.{All, sum_by, zip, min, nat_eq, slice_index_or, slice_index, set, drop}
+use Rattle.std.proofs.Common.{ℕ, suc, ◌+◌, ◌-◌, ◌<◌, ◌≤◌, ◌≡◌, ◌++◌, List, [], ◌∷◌, sym, refl, ap, ◌∙◌, subst, ⊎_elim, arith, length}
+use Rattle.std.specs.Prelude.{All, AllPairs, zip, min, slice_index_or, slice_index, set, drop}
 use Rattle.std.proofs.Math.Seq.{drop-cons}
 use Rattle.std.proofs.lemmas.Bool.{cases_eq}
 use Rattle.std.proofs.lemmas.List.{append_assoc, get_or-set_other, get_or-set_same}
-use Rattle.std.proofs.lemmas.List.Elements.{All-cons, All-nil}
+use Rattle.std.proofs.lemmas.List.Elements.{All-cons, All-nil, All-head, All-tail, All-weaker}
+use Rattle.std.proofs.lemmas.List.Kept.{AllPairs-cons}
 use Rattle.std.proofs.lemmas.List.Sums.{sum_by-cons}
 use Rattle.flow_model.specs.declared.instance.Arc.{Arc}
 use Rattle.flow_model.specs.Instance.{Net}
-use Rattle.flow_model.specs.Flow.{Fits, loads, units_of, room_of, flow_of}
+use Rattle.flow_model.specs.Flow.{Fits, FillsFirst, IsFilledInOrder, loads, units_of, room_of, flow_of}
+use Rattle.flow_model.specs.Laws.{FirstArcsFirst}
 use Rattle.flow_model.proofs.Balance.{at_node, at_node-same, at_node-other}
 
 -- each direction gets its units, as far as its room holds them
@@ -70,3 +72,40 @@ fits-filled net units flow e = subst (Fits net) (sym e) (fits-flow_of units net.
 
 pub units-filled : (net : Net) (units : ℕ → ℕ) (flow : List ℕ) (d : ℕ) → flow ≡ flow_of units net.arcs → units d ≤ room_of d net.arcs → units_of d (loads net flow) ≡ units d
 units-filled net units flow d e room = ap (λ f. units_of d (loads net f)) e ∙ units-flow_of d units net.arcs ∙ omega (arith, room)
+
+-- only what the arcs' directions have counts
+flow_of-known : (left other : ℕ → ℕ) (arcs : List Arc) → All (λ a. left a.dir ≡ other a.dir) arcs → flow_of left arcs ≡ flow_of other arcs
+flow_of-known left other [] same = refl
+flow_of-known left other (a ∷ arcs) same =
+    let given : min a.room (left a.dir) ≡ min a.room (other a.dir) = ap (min a.room) (All-head (λ b. left b.dir ≡ other b.dir) a arcs same) in
+    let next : ℕ → ℕ = λ d. left d - at_node a.dir (min a.room (left a.dir)) d in
+    let after : ℕ → ℕ = λ d. other d - at_node a.dir (min a.room (other a.dir)) d in
+    let rest = flow_of-known next after arcs (All-weaker (λ b. left b.dir ≡ other b.dir) (λ b. next b.dir ≡ after b.dir) (λ b e. let g = ap (λ m. at_node a.dir m b.dir) given in omega (arith, e, g)) arcs (All-tail (λ b. left b.dir ≡ other b.dir) a arcs same)) in
+    ap (λ m. m ∷ flow_of next arcs) given ∙ ap (λ r. min a.room (other a.dir) ∷ r) rest
+
+pub in_order-filled : (net : Net) (units : ℕ → ℕ) (flow : List ℕ) → flow ≡ flow_of units net.arcs → All (λ a. units a.dir ≤ room_of a.dir net.arcs) net.arcs → IsFilledInOrder net flow
+in_order-filled net units flow e room = e ∙ flow_of-known units (λ d. units_of d (loads net flow)) net.arcs (All-weaker (λ a. units a.dir ≤ room_of a.dir net.arcs) (λ a. units a.dir ≡ units_of a.dir (loads net flow)) (λ a fits. sym (units-filled net units flow a.dir e fits)) net.arcs room)
+
+-- no arc gets more than its direction has
+share-flow_of : (left : ℕ → ℕ) (arcs : List Arc) → All (λ (l : Arc × ℕ). l.1 ≤ left l.0.dir) (zip arcs (flow_of left arcs))
+share-flow_of left [] = All-nil (λ (l : Arc × ℕ). l.1 ≤ left l.0.dir)
+share-flow_of left (a ∷ arcs) =
+    let next : ℕ → ℕ = λ d. left d - at_node a.dir (min a.room (left a.dir)) d in
+    All-cons (λ (l : Arc × ℕ). l.1 ≤ left l.0.dir) (a, min a.room (left a.dir)) (zip arcs (flow_of next arcs)) (omega arith) (All-weaker (λ (l : Arc × ℕ). l.1 ≤ next l.0.dir) (λ (l : Arc × ℕ). l.1 ≤ left l.0.dir) (λ l h. omega (arith, h)) (zip arcs (flow_of next arcs)) (share-flow_of next arcs))
+
+pairs-flow_of : (left : ℕ → ℕ) (arcs : List Arc) → AllPairs FillsFirst (zip arcs (flow_of left arcs))
+pairs-flow_of left [] = λ i j d l k. absurd (omega arith)
+pairs-flow_of left (a ∷ arcs) =
+    let m = min a.room (left a.dir) in
+    let next : ℕ → ℕ = λ d. left d - at_node a.dir (min a.room (left a.dir)) d in
+    let later : All (FillsFirst (a, m)) (zip arcs (flow_of next arcs)) = All-weaker (λ (l : Arc × ℕ). l.1 ≤ next l.0.dir) (FillsFirst (a, m)) (λ l h e some. full l.0.dir l.1 e h some) (zip arcs (flow_of next arcs)) (share-flow_of next arcs) in
+    AllPairs-cons FillsFirst (a, m) (zip arcs (flow_of next arcs)) later (pairs-flow_of next arcs)
+  where
+    full : (d x : ℕ) → a.dir ≡ d → x ≤ left d - at_node a.dir (min a.room (left a.dir)) d → 0 < x → min a.room (left a.dir) ≡ a.room
+    full d x e h some =
+        let took = ap (at_node a.dir (min a.room (left a.dir))) e in
+        let had = ap left e in
+        omega (arith, h, some, took, had, at_node-same a.dir (min a.room (left a.dir)))
+
+pub first_arcs_first : FirstArcsFirst
+first_arcs_first net flow e = subst (λ f. AllPairs FillsFirst (zip net.arcs f)) (sym e) (pairs-flow_of (λ d. units_of d (loads net flow)) net.arcs)

@@ -54,3 +54,7 @@ flow_of units (a ∷ arcs) = min a.room (units a.dir) ∷ flow_of (λ dir. units
 -- the flow is the one that fills its own directions' units in order
 abbrev pub IsFilledInOrder : Net → List ℕ → Type 0
 IsFilledInOrder net flow = flow ≡ flow_of (λ dir. units_of dir (loads net flow)) net.arcs
+
+-- where the later of two arcs of one direction carries anything, the earlier one is full
+abbrev pub FillsFirst : Arc × ℕ → Arc × ℕ → Type 0
+FillsFirst l m = l.0.dir ≡ m.0.dir → 0 < m.1 → l.1 ≡ l.0.room

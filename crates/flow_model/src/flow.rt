@@ -1,5 +1,5 @@
 ghost use Rattle.std.specs.Prelude.{◌≡◌, ◌<◌, ◌≤◌, ◌*◌, ◌^◌, ℕ, All, IfOk, length, slice_index, sum_by, zip};
-ghost use Rattle.flow_model.specs.Flow.{Fits, cost_of, flow_of, room_of, units_of, loads};
+ghost use Rattle.flow_model.specs.Flow.{Fits, IsFilledInOrder, cost_of, flow_of, room_of, units_of, loads};
 
 use crate::{Arc, Instance};
 use plan_base::NoMemory;
@@ -63,6 +63,7 @@ pub fn fill(alloc: Global, instance: &Instance, units: &[u64]) -> Result<Flow, N
     requires room { (d : ℕ) → d < length units.now → slice_index units.now d ≤ room_of d instance.now.arcs }
     ensures value { IfOk result (λ f. f ≡ flow_of (slice_index units.now) instance.now.arcs) }
     ensures fits { IfOk result (λ f. Fits instance.now f) }
+    ensures in_order { IfOk result (λ f. IsFilledInOrder instance.now f) }
     ensures units { IfOk result (λ f. (d : ℕ) → d < length units.now → units_of d (loads instance.now f) ≡ slice_index units.now d) }
 {
     let units = fill_arcs(alloc, instance.arcs(), units)?;

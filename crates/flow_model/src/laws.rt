@@ -1,4 +1,4 @@
-ghost use Rattle.flow_model.specs.Laws.{ShownIsCheapest, CutHasNoFlow};
+ghost use Rattle.flow_model.specs.Laws.{CutHasNoFlow, FirstArcsFirst, ShownIsCheapest};
 
 /// The law that a flow is cheapest among all feasible flows where potentials show it. It does nothing when it runs.
 #[tactic(auto, using(crate::proofs::Duality::shown_is_cheapest))]
@@ -10,4 +10,10 @@ pub fn shown_is_cheapest()
 #[tactic(auto, using(crate::proofs::Duality::cut_has_no_flow))]
 pub fn cut_has_no_flow()
     ensures { CutHasNoFlow }
+{}
+
+/// The law that a flow which is filled in order takes each direction's first arcs first. It does nothing when it runs.
+#[tactic(auto, using(crate::proofs::Filled::first_arcs_first))]
+pub fn first_arcs_first()
+    ensures { FirstArcsFirst }
 {}

@@ -11,5 +11,5 @@ mod tests;
 
 pub use flow::{Flow, cost, fill};
 pub use instance::{Arc, Instance};
-pub use laws::{cut_has_no_flow, shown_is_cheapest};
+pub use laws::{cut_has_no_flow, first_arcs_first, shown_is_cheapest};
 pub use solve::{Solve, Solved};

@@ -2,3 +2,4 @@ pub mod Values
 pub mod Chains
 pub mod Least
 pub mod Trips
+pub mod Paths

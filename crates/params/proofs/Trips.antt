@@ -11,16 +11,17 @@ use Rattle.serde_json.specs.Data.{Data, string, boolean, Members, no_members, me
 use Rattle.serde_json.specs.Find.{get_member}
 use Rattle.serde_json.proofs.Views.{get_member-put, get_member-put_other}
 use Rattle.plan_base.specs.Dir.{Direction}
+use Rattle.plan_base.specs.declared.held.Held.{Held}
 use Rattle.layer.specs.declared.records.Update.{Update}
 use Rattle.layer.specs.declared.records.Bias.{Bias}
 use Rattle.askrene_command.specs.Command.{least_of}
-use Rattle.askrene_command.specs.declared.command.Command.TheVariants.{CreateLayer, RemoveLayer, ListLayers, UpdateChannel, InformChannel, BiasChannel, DisableNode, Age}
+use Rattle.askrene_command.specs.declared.command.Command.TheVariants.{CreateLayer, RemoveLayer, ListLayers, UpdateChannel, InformChannel, BiasChannel, DisableNode, Age, Reserve, Unreserve, ListReservations}
 use Rattle.askrene_command.specs.declared.command.Inform.{Inform}
 use Rattle.askrene_command.specs.declared.command.Inform.TheVariants.{Constrained, Unconstrained, Succeeded}
 use Rattle.params.specs.Parameters.{given, required, optional, is_too_long, lesser, unknown_member, unknown_name}
-use Rattle.params.specs.Kinds.{name_value, node_value, dir_value, inform_value, flag_value, whole_value, whole_up_to, amount_value, amount_up_to, percent_value}
-use Rattle.params.specs.Methods.{layer_table, update_table, inform_table, bias_table, node_table, age_table, fee_max, delay_max, says_too_much, create_layer_in, remove_layer_in, list_layers_in, update_channel_in, inform_channel_in, bias_channel_in, disable_node_in, age_in}
-use Rattle.params.specs.Printed.{put_given, put_all, named, dir_data, node_data, inform_data, whole_data, percent_data, update_values, inform_values, bias_values}
+use Rattle.params.specs.Kinds.{name_value, node_value, dir_value, inform_value, flag_value, whole_value, whole_up_to, amount_value, amount_up_to, percent_value, path_value}
+use Rattle.params.specs.Methods.{layer_table, update_table, inform_table, bias_table, node_table, age_table, path_table, fee_max, delay_max, says_too_much, create_layer_in, remove_layer_in, list_layers_in, update_channel_in, inform_channel_in, bias_channel_in, disable_node_in, age_in, reserve_in, unreserve_in, list_reservations_in}
+use Rattle.params.specs.Printed.{put_given, put_all, dir_data, node_data, inform_data, whole_data, percent_data, path_data, update_values, inform_values, bias_values, layer_params, list_layers_params, update_params, inform_params, bias_params, node_params, age_params, path_params, no_params}
 
 -- no name stands twice
 abbrev are_distinct : List (List ℕ) → Bool
@@ -141,7 +142,7 @@ none_unknown_in table values listed = unknown_onto table table values no_members
 
 -- the methods
 pub create_layer_trip : (layer : List ℕ) → required name_value (Some (string layer)) ≡ Some layer
-    → create_layer_in (named layer_table (Some (string layer) ∷ [])) ≡ Ok (CreateLayer layer)
+    → create_layer_in (layer_params layer) ≡ Ok (CreateLayer layer)
 unfolding create_layer_in given is_too_long unknown_name
 create_layer_trip layer back =
     let values = Some (string layer) ∷ [] in
@@ -150,7 +151,7 @@ create_layer_trip layer back =
     rw (e, back, known) refl
 
 pub remove_layer_trip : (layer : List ℕ) → required name_value (Some (string layer)) ≡ Some layer
-    → remove_layer_in (named layer_table (Some (string layer) ∷ [])) ≡ Ok (RemoveLayer layer)
+    → remove_layer_in (layer_params layer) ≡ Ok (RemoveLayer layer)
 unfolding remove_layer_in given is_too_long unknown_name
 remove_layer_trip layer back =
     let values = Some (string layer) ∷ [] in
@@ -159,7 +160,7 @@ remove_layer_trip layer back =
     rw (e, back, known) refl
 
 pub list_layers_trip : (layer : Option (List ℕ)) → optional name_value (option_map string layer) ≡ Some layer
-    → list_layers_in (named layer_table (option_map string layer ∷ [])) ≡ Ok (ListLayers layer)
+    → list_layers_in (list_layers_params layer) ≡ Ok (ListLayers layer)
 unfolding list_layers_in given is_too_long unknown_name
 list_layers_trip layer back =
     let values = option_map string layer ∷ [] in
@@ -176,7 +177,7 @@ pub update_channel_trip : (layer : List ℕ) (change : Update)
     → optional (amount_up_to fee_max) (option_map whole_data change.base) ≡ Some change.base
     → optional (whole_up_to fee_max) (option_map whole_data change.ppm) ≡ Some change.ppm
     → optional (whole_up_to delay_max) (option_map whole_data change.delay) ≡ Some change.delay
-    → update_channel_in (named update_table (update_values layer change)) ≡ Ok (UpdateChannel layer change)
+    → update_channel_in (update_params layer change) ≡ Ok (UpdateChannel layer change)
 unfolding update_channel_in given is_too_long unknown_name
 update_channel_trip layer change b0 b1 b2 b3 b4 b5 b6 b7 =
     let values = update_values layer change in
@@ -203,7 +204,7 @@ pub inform_channel_trip : (layer : List ℕ) (dir : Direction) (amount : ℕ) (k
     → required amount_value (Some (whole_data amount)) ≡ Some amount
     → required inform_value (Some (inform_data kind)) ≡ Some kind
     → least_of kind ≤ amount
-    → inform_channel_in (named inform_table (inform_values layer dir amount kind)) ≡ Ok (InformChannel layer dir amount kind)
+    → inform_channel_in (inform_params layer dir amount kind) ≡ Ok (InformChannel layer dir amount kind)
 unfolding inform_channel_in given is_too_long unknown_name
 inform_channel_trip layer dir amount kind b0 b1 b2 b3 least =
     let values = inform_values layer dir amount kind in
@@ -219,7 +220,7 @@ pub bias_channel_trip : (layer : List ℕ) (bias : Bias)
     → required name_value (Some (string layer)) ≡ Some layer
     → required dir_value (Some (dir_data bias.dir)) ≡ Some bias.dir
     → required percent_value (Some (percent_data bias.bias)) ≡ Some bias.bias
-    → bias_channel_in (named bias_table (bias_values layer bias)) ≡ Ok (BiasChannel layer bias)
+    → bias_channel_in (bias_params layer bias) ≡ Ok (BiasChannel layer bias)
 unfolding bias_channel_in given is_too_long unknown_name
 bias_channel_trip layer bias b0 b1 b2 =
     let values = bias_values layer bias in
@@ -233,7 +234,7 @@ bias_channel_trip layer bias b0 b1 b2 =
 pub disable_node_trip : (layer node : List ℕ)
     → required name_value (Some (string layer)) ≡ Some layer
     → required node_value (Some (node_data node)) ≡ Some node
-    → disable_node_in (named node_table (Some (string layer) ∷ Some (node_data node) ∷ [])) ≡ Ok (DisableNode layer node)
+    → disable_node_in (node_params layer node) ≡ Ok (DisableNode layer node)
 unfolding disable_node_in given is_too_long unknown_name
 disable_node_trip layer node b0 b1 =
     let values = Some (string layer) ∷ Some (node_data node) ∷ [] in
@@ -246,7 +247,7 @@ disable_node_trip layer node b0 b1 =
 pub age_trip : (layer : List ℕ) (cutoff : ℕ)
     → required name_value (Some (string layer)) ≡ Some layer
     → required whole_value (Some (whole_data cutoff)) ≡ Some cutoff
-    → age_in (named age_table (Some (string layer) ∷ Some (whole_data cutoff) ∷ [])) ≡ Ok (Age layer cutoff)
+    → age_in (age_params layer cutoff) ≡ Ok (Age layer cutoff)
 unfolding age_in given is_too_long unknown_name
 age_trip layer cutoff b0 b1 =
     let values = Some (string layer) ∷ Some (whole_data cutoff) ∷ [] in
@@ -255,3 +256,25 @@ age_trip layer cutoff b0 b1 =
     let e1 : get_member (codes "cutoff") members ≡ Some (whole_data cutoff) = found (codes "cutoff") age_table values refl in
     let known : unknown_member age_table members ≡ None = none_unknown_in age_table values refl in
     rw (e0, b0, e1, b1, known) refl
+
+pub reserve_trip : (path : List Held) → required path_value (Some (path_data path)) ≡ Some path
+    → reserve_in (path_params path) ≡ Ok (Reserve path)
+unfolding reserve_in given is_too_long unknown_name
+reserve_trip path back =
+    let values = Some (path_data path) ∷ [] in
+    let e : get_member (codes "path") (put_all path_table values no_members) ≡ Some (path_data path) = found (codes "path") path_table values refl in
+    let known : unknown_member path_table (put_all path_table values no_members) ≡ None = none_unknown_in path_table values refl in
+    rw (e, back, known) refl
+
+pub unreserve_trip : (path : List Held) → required path_value (Some (path_data path)) ≡ Some path
+    → unreserve_in (path_params path) ≡ Ok (Unreserve path)
+unfolding unreserve_in given is_too_long unknown_name
+unreserve_trip path back =
+    let values = Some (path_data path) ∷ [] in
+    let e : get_member (codes "path") (put_all path_table values no_members) ≡ Some (path_data path) = found (codes "path") path_table values refl in
+    let known : unknown_member path_table (put_all path_table values no_members) ≡ None = none_unknown_in path_table values refl in
+    rw (e, back, known) refl
+
+pub list_reservations_trip : list_reservations_in no_params ≡ Ok ListReservations
+unfolding list_reservations_in put_all is_too_long unknown_name
+list_reservations_trip = refl

@@ -1,11 +1,14 @@
 -- The good values of parameters.
-use Rattle.std.specs.Prelude.{ℕ, ◌&&◌, ℤ, pos, negsuc, List, Bool, nat_le, int_le, codes, bytes_eq, Option, Some, None, option_and_then, if◌then◌else◌}
-use Rattle.serde_json.specs.Data.{Data, string}
-use Rattle.serde_json.specs.Find.{as_bool, as_number, as_str, as_u64, as_i64}
+use Rattle.std.specs.Prelude.{ℕ, ◌&&◌, ℤ, pos, negsuc, List, [], ◌∷◌, Bool, nat_le, int_le, codes, bytes_eq, Option, Some, None, option_and_then, if◌then◌else◌}
+use Rattle.serde_json.specs.Data.{Data, string, Items, no_items, item}
+use Rattle.serde_json.specs.Events.{items_len}
+use Rattle.serde_json.specs.Find.{get, as_array, as_bool, as_number, as_str, as_u64, as_i64}
 use Rattle.plan_base.specs.Amount.{at_most_max, msat_of}
 use Rattle.plan_base.specs.Dir.{Direction, dir_of}
 use Rattle.plan_base.specs.NodeId.{node_id_of}
+use Rattle.plan_base.specs.declared.held.Held.{Held}
 use Rattle.layer.specs.Name.{is_good_name}
+use Rattle.askrene_command.specs.declared.command.TheConstants.{PATH_MAX}
 use Rattle.askrene_command.specs.declared.command.Inform.{Inform}
 use Rattle.askrene_command.specs.declared.command.Inform.TheVariants.{Constrained, Unconstrained, Succeeded}
 
@@ -65,3 +68,32 @@ percent_of z = if int_le (negsuc 99) z && int_le z (pos 100) then Some z else No
 
 unfoldable pub percent_value : Data → Option ℤ
 percent_value value = option_and_then percent_of (option_and_then as_i64 (as_number value))
+
+-- an item of a path: an object with a direction and an amount, whatever else it has
+abbrev pub held_from : Option Direction → Option ℕ → Option Held
+held_from (Some dir) (Some amount) = Some (record { dir = dir; amount = amount })
+held_from _ _ = None
+
+unfoldable pub held_value : Data → Option Held
+held_value value =
+    held_from (option_and_then dir_value (get (codes "short_channel_id_dir") value))
+    (option_and_then amount_value (get (codes "amount_msat") value))
+
+-- items of a path, each of which is good
+abbrev pub in_front : Option Held → Option (List Held) → Option (List Held)
+in_front (Some held) (Some others) = Some (held ∷ others)
+in_front _ _ = None
+
+unfoldable pub helds_of : Items → Option (List Held)
+helds_of no_items = Some []
+helds_of (item value values) = in_front (held_value value) (helds_of values)
+
+-- a path: an array of 1 to PATH_MAX items, each of which is good
+abbrev pub is_path_length : ℕ → Bool
+is_path_length count = nat_le 1 count && nat_le count PATH_MAX
+
+abbrev pub path_of : Items → Option (List Held)
+path_of values = if is_path_length (items_len values) then helds_of values else None
+
+unfoldable pub path_value : Data → Option (List Held)
+path_value value = option_and_then path_of (as_array value)

@@ -4,11 +4,11 @@
 use Rattle.std.specs.Prelude.{ℕ, ◌==◌, List, [], ◌∷◌, Bool, false, codes, bytes_eq, Option, Some, None, Result, if◌then◌else◌}
 use Rattle.serde_json.specs.Data.{Data}
 use Rattle.askrene_command.specs.declared.command.Command.{Command}
-use Rattle.askrene_command.specs.declared.command.Command.TheVariants.{CreateLayer, RemoveLayer, ListLayers, UpdateChannel, InformChannel, BiasChannel, DisableNode, Age}
+use Rattle.askrene_command.specs.declared.command.Command.TheVariants.{CreateLayer, RemoveLayer, ListLayers, UpdateChannel, InformChannel, BiasChannel, DisableNode, Age, Reserve, Unreserve, ListReservations}
 use Rattle.askrene_command.specs.declared.command.Inform.{Inform}
 use Rattle.askrene_command.specs.declared.command.Inform.TheVariants.{Constrained, Unconstrained, Succeeded}
 use Rattle.params.specs.Parameters.{needs, may_have, unless_long, refused_if, if_known}
-use Rattle.params.specs.Kinds.{name_value, node_value, dir_value, inform_value, flag_value, whole_value, whole_up_to, amount_value, amount_up_to, percent_value}
+use Rattle.params.specs.Kinds.{name_value, node_value, dir_value, inform_value, flag_value, whole_value, whole_up_to, amount_value, amount_up_to, percent_value, path_value}
 
 -- the greatest base fee and proportional fee, and the greatest delta of a direction (BOLT 7)
 abbrev pub fee_max : ℕ
@@ -120,6 +120,31 @@ age_in params =
     needs age_table params 1 whole_value (λ cutoff.
     if_known age_table params (Age layer cutoff))))
 
+-- reserve, unreserve
+abbrev pub path_table : List (List ℕ)
+path_table = codes "path" ∷ []
+
+unfoldable pub reserve_in : Data → Result Command (List ℕ)
+reserve_in params =
+    unless_long path_table params (
+    needs path_table params 0 path_value (λ path.
+    if_known path_table params (Reserve path)))
+
+unfoldable pub unreserve_in : Data → Result Command (List ℕ)
+unreserve_in params =
+    unless_long path_table params (
+    needs path_table params 0 path_value (λ path.
+    if_known path_table params (Unreserve path)))
+
+-- listreservations, which has no parameters
+abbrev pub empty_table : List (List ℕ)
+empty_table = []
+
+unfoldable pub list_reservations_in : Data → Result Command (List ℕ)
+list_reservations_in params =
+    unless_long empty_table params (
+    if_known empty_table params ListReservations)
+
 -- The command of a method and its parameters, or the name of the parameter that is refused. None: there is no such
 -- method.
 unfoldable pub command_in : List ℕ → Data → Option (Result Command (List ℕ))
@@ -132,4 +157,7 @@ command_in method params =
     else if bytes_eq method (codes "askrene-bias-channel") then Some (bias_channel_in params)
     else if bytes_eq method (codes "askrene-disable-node") then Some (disable_node_in params)
     else if bytes_eq method (codes "askrene-age") then Some (age_in params)
+    else if bytes_eq method (codes "askrene-reserve") then Some (reserve_in params)
+    else if bytes_eq method (codes "askrene-unreserve") then Some (unreserve_in params)
+    else if bytes_eq method (codes "askrene-listreservations") then Some (list_reservations_in params)
     else None

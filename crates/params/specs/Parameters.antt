@@ -22,6 +22,13 @@ unfoldable pub optional : {T : Type 0} → (Data → Option T) → Option Data �
 optional reads None = Some None
 optional reads (Some value) = if is_some (as_null value) then Some None else option_map Some (reads value)
 
+-- the same of a parameter with a place and a name
+abbrev pub required_in : {T : Type 0} → (Data → Option T) → Data → ℕ → List ℕ → Option T
+required_in reads params place name = required reads (given params place name)
+
+abbrev pub optional_in : {T : Type 0} → (Data → Option T) → Data → ℕ → List ℕ → Option (Option T)
+optional_in reads params place name = optional reads (given params place name)
+
 -- goes on with what is good, or refuses the parameter by its name
 abbrev pub need : {A B : Type 0} → List ℕ → Option A → (A → Result B (List ℕ)) → Result B (List ℕ)
 need name None next = Err name
@@ -30,12 +37,12 @@ need name (Some good) next = next good
 -- the parameter at a place of the table is required
 abbrev pub needs : {A B : Type 0} → List (List ℕ) → Data → ℕ → (Data → Option A) → (A → Result B (List ℕ)) → Result B (List ℕ)
 needs table params place reads next =
-    let name = get_or table place [] in need name (required reads (given params place name)) next
+    let name = get_or table place [] in need name (required_in reads params place name) next
 
 -- the parameter at a place of the table is optional
 abbrev pub may_have : {A B : Type 0} → List (List ℕ) → Data → ℕ → (Data → Option A) → (Option A → Result B (List ℕ)) → Result B (List ℕ)
 may_have table params place reads next =
-    let name = get_or table place [] in need name (optional reads (given params place name)) next
+    let name = get_or table place [] in need name (optional_in reads params place name) next
 
 -- an array has more items than there are parameters
 unfoldable pub is_too_long : ℕ → Data → Bool

@@ -1,16 +1,18 @@
 -- The named parameters that a command is written as.
-use Rattle.std.specs.Prelude.{ℕ, ℤ, List, [], ◌∷◌, codes, Option, Some, None, option_map}
-use Rattle.serde_json.specs.Data.{Data, number, string, boolean, object, unsigned, Members, no_members, put}
+use Rattle.std.specs.Prelude.{ℕ, ℤ, List, [], ◌∷◌, map, codes, Option, Some, None, option_map}
+use Rattle.serde_json.specs.Data.{Data, number, string, boolean, array, object, unsigned, Members, no_members, member, put}
 use Rattle.serde_json.specs.Find.{of_integer}
+use Rattle.serde_json.specs.View.{items_of}
 use Rattle.plan_base.specs.Dir.{Direction, dir_text}
 use Rattle.plan_base.specs.NodeId.{node_id_text}
+use Rattle.plan_base.specs.declared.held.Held.{Held}
 use Rattle.layer.specs.declared.records.Bias.{Bias}
 use Rattle.layer.specs.declared.records.Update.{Update}
 use Rattle.askrene_command.specs.declared.command.Command.{Command}
-use Rattle.askrene_command.specs.declared.command.Command.TheVariants.{CreateLayer, RemoveLayer, ListLayers, UpdateChannel, InformChannel, BiasChannel, DisableNode, Age}
+use Rattle.askrene_command.specs.declared.command.Command.TheVariants.{CreateLayer, RemoveLayer, ListLayers, UpdateChannel, InformChannel, BiasChannel, DisableNode, Age, Reserve, Unreserve, ListReservations}
 use Rattle.askrene_command.specs.declared.command.Inform.{Inform}
 use Rattle.askrene_command.specs.declared.command.Inform.TheVariants.{Constrained, Unconstrained, Succeeded}
-use Rattle.params.specs.Methods.{layer_table, update_table, inform_table, bias_table, node_table, age_table}
+use Rattle.params.specs.Methods.{layer_table, update_table, inform_table, bias_table, node_table, age_table, path_table, empty_table}
 
 -- a direction and a node, in written form
 abbrev pub dir_data : Direction → Data
@@ -49,31 +51,69 @@ put_all _ _ members = members
 abbrev pub named : List (List ℕ) → List (Option Data) → Data
 named table values = object (put_all table values no_members)
 
--- the values of an update, in the order of its table
+-- an item of a path, and a path
+abbrev pub held_data : Held → Data
+held_data held =
+    object (member (codes "amount_msat") (whole_data held.amount)
+    (member (codes "short_channel_id_dir") (dir_data held.dir) no_members))
+
+abbrev pub path_data : List Held → Data
+path_data path = array (items_of (map held_data path))
+
+-- the parameters of each method: what isn't given is left out
+abbrev pub layer_params : List ℕ → Data
+layer_params layer = named layer_table (Some (string layer) ∷ [])
+
+abbrev pub list_layers_params : Option (List ℕ) → Data
+list_layers_params layer = named layer_table (option_map string layer ∷ [])
+
 abbrev pub update_values : List ℕ → Update → List (Option Data)
 update_values layer change =
     Some (string layer) ∷ Some (dir_data change.dir) ∷ option_map boolean change.enabled
     ∷ option_map whole_data change.htlc_min ∷ option_map whole_data change.htlc_max ∷ option_map whole_data change.base
     ∷ option_map whole_data change.ppm ∷ option_map whole_data change.delay ∷ []
 
--- the values of an inform and of a bias, in the order of their tables
+abbrev pub update_params : List ℕ → Update → Data
+update_params layer change = named update_table (update_values layer change)
+
 abbrev pub inform_values : List ℕ → Direction → ℕ → Inform → List (Option Data)
 inform_values layer dir amount kind =
     Some (string layer) ∷ Some (dir_data dir) ∷ Some (whole_data amount) ∷ Some (inform_data kind) ∷ []
 
+abbrev pub inform_params : List ℕ → Direction → ℕ → Inform → Data
+inform_params layer dir amount kind = named inform_table (inform_values layer dir amount kind)
+
 abbrev pub bias_values : List ℕ → Bias → List (Option Data)
 bias_values layer bias = Some (string layer) ∷ Some (dir_data bias.dir) ∷ Some (percent_data bias.bias) ∷ []
 
--- the parameters of a command: what isn't given is left out
+abbrev pub bias_params : List ℕ → Bias → Data
+bias_params layer bias = named bias_table (bias_values layer bias)
+
+abbrev pub node_params : List ℕ → List ℕ → Data
+node_params layer node = named node_table (Some (string layer) ∷ Some (node_data node) ∷ [])
+
+abbrev pub age_params : List ℕ → ℕ → Data
+age_params layer cutoff = named age_table (Some (string layer) ∷ Some (whole_data cutoff) ∷ [])
+
+abbrev pub path_params : List Held → Data
+path_params path = named path_table (Some (path_data path) ∷ [])
+
+abbrev pub no_params : Data
+no_params = named empty_table []
+
+-- the parameters of a command
 unfoldable pub params_data : Command → Data
-params_data (CreateLayer layer) = named layer_table (Some (string layer) ∷ [])
-params_data (RemoveLayer layer) = named layer_table (Some (string layer) ∷ [])
-params_data (ListLayers layer) = named layer_table (option_map string layer ∷ [])
-params_data (UpdateChannel layer change) = named update_table (update_values layer change)
-params_data (InformChannel layer dir amount kind) = named inform_table (inform_values layer dir amount kind)
-params_data (BiasChannel layer bias) = named bias_table (bias_values layer bias)
-params_data (DisableNode layer node) = named node_table (Some (string layer) ∷ Some (node_data node) ∷ [])
-params_data (Age layer cutoff) = named age_table (Some (string layer) ∷ Some (whole_data cutoff) ∷ [])
+params_data (CreateLayer layer) = layer_params layer
+params_data (RemoveLayer layer) = layer_params layer
+params_data (ListLayers layer) = list_layers_params layer
+params_data (UpdateChannel layer change) = update_params layer change
+params_data (InformChannel layer dir amount kind) = inform_params layer dir amount kind
+params_data (BiasChannel layer bias) = bias_params layer bias
+params_data (DisableNode layer node) = node_params layer node
+params_data (Age layer cutoff) = age_params layer cutoff
+params_data (Reserve path) = path_params path
+params_data (Unreserve path) = path_params path
+params_data ListReservations = no_params
 
 -- the method of a command
 abbrev pub method_of : Command → List ℕ
@@ -85,3 +125,6 @@ method_of (InformChannel layer dir amount kind) = codes "askrene-inform-channel"
 method_of (BiasChannel layer bias) = codes "askrene-bias-channel"
 method_of (DisableNode layer node) = codes "askrene-disable-node"
 method_of (Age layer cutoff) = codes "askrene-age"
+method_of (Reserve path) = codes "askrene-reserve"
+method_of (Unreserve path) = codes "askrene-unreserve"
+method_of ListReservations = codes "askrene-listreservations"

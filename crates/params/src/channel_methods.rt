@@ -4,8 +4,8 @@ ghost use Rattle.askrene_command.specs.Command.{IsGoodCommand, IsGoodName, IsGoo
 ghost use Rattle.askrene_command.specs.declared.command.Command.TheVariants.{UpdateChannel, InformChannel, BiasChannel};
 ghost use Rattle.layer.specs.Bias.{IsGoodBias};
 ghost use Rattle.layer.specs.Update.{IsGoodUpdate};
-ghost use Rattle.params.specs.Methods.{update_table, inform_table, bias_table, update_channel_in, inform_channel_in, bias_channel_in, says_too_much};
-ghost use Rattle.params.specs.Printed.{named, update_values, inform_values, bias_values};
+ghost use Rattle.params.specs.Methods.{update_channel_in, inform_channel_in, bias_channel_in, says_too_much};
+ghost use Rattle.params.specs.Printed.{update_params, inform_params, bias_params};
 ghost use Rattle.params.specs.Reading.{IsFaultIn};
 
 use crate::fault::Fault;
@@ -118,9 +118,8 @@ pub fn read_bias_channel<'a>(alloc: Global, params: &'a Value) -> Result<Command
 pub fn write_update_channel(alloc: Global, layer: &Name, change: &Update) -> Result<Value, NoMemory>
     requires name { IsGoodName layer.now }
     requires change { IsGoodUpdate change.now }
-    ensures value { IfOk result (λ value. view value ≡ named update_table (update_values layer.now change.now)) }
-    ensures back { OnOk result (update_channel_in (named update_table (update_values layer.now change.now))
-        ≡ Ok (UpdateChannel layer.now change.now)) }
+    ensures value { IfOk result (λ value. view value ≡ update_params layer.now change.now) }
+    ensures back { OnOk result (update_channel_in (update_params layer.now change.now) ≡ Ok (UpdateChannel layer.now change.now)) }
 {
     let mut all = Map::new(alloc);
     put_required::<LayerName>(alloc, &mut all, "layer", layer)?;
@@ -145,9 +144,8 @@ pub fn write_inform_channel(
 ) -> Result<Value, NoMemory>
     requires name { IsGoodName layer.now }
     requires inform { IsGoodInform amount kind }
-    ensures value { IfOk result (λ value. view value ≡ named inform_table (inform_values layer.now dir.now amount kind)) }
-    ensures back { OnOk result (inform_channel_in (named inform_table (inform_values layer.now dir.now amount kind))
-        ≡ Ok (InformChannel layer.now dir.now amount kind)) }
+    ensures value { IfOk result (λ value. view value ≡ inform_params layer.now dir.now amount kind) }
+    ensures back { OnOk result (inform_channel_in (inform_params layer.now dir.now amount kind) ≡ Ok (InformChannel layer.now dir.now amount kind)) }
 {
     let mut all = Map::new(alloc);
     put_required::<LayerName>(alloc, &mut all, "layer", layer)?;
@@ -162,9 +160,8 @@ pub fn write_inform_channel(
 pub fn write_bias_channel(alloc: Global, layer: &Name, bias: &Bias) -> Result<Value, NoMemory>
     requires name { IsGoodName layer.now }
     requires bias { IsGoodBias bias.now }
-    ensures value { IfOk result (λ value. view value ≡ named bias_table (bias_values layer.now bias.now)) }
-    ensures back { OnOk result (bias_channel_in (named bias_table (bias_values layer.now bias.now))
-        ≡ Ok (BiasChannel layer.now bias.now)) }
+    ensures value { IfOk result (λ value. view value ≡ bias_params layer.now bias.now) }
+    ensures back { OnOk result (bias_channel_in (bias_params layer.now bias.now) ≡ Ok (BiasChannel layer.now bias.now)) }
 {
     let mut all = Map::new(alloc);
     put_required::<LayerName>(alloc, &mut all, "layer", layer)?;

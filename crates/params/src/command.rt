@@ -10,6 +10,7 @@ use crate::fault::Fault;
 use crate::layer_methods::{
     read_age, read_create_layer, read_disable_node, read_list_layers, read_remove_layer,
 };
+use crate::reservation_methods::{read_list_reservations, read_reserve, read_unreserve};
 use askrene_command::Command;
 use plan_base::Text;
 use rpc_lines::Request;
@@ -45,6 +46,9 @@ fn read_params<'a>(
         "askrene-bias-channel" => Some(read_bias_channel(alloc, params)),
         "askrene-disable-node" => Some(read_disable_node(alloc, params)),
         "askrene-age" => Some(read_age(alloc, params)),
+        "askrene-reserve" => Some(read_reserve(alloc, params)),
+        "askrene-unreserve" => Some(read_unreserve(alloc, params)),
+        "askrene-listreservations" => Some(read_list_reservations(params)),
         _ => None,
     }
 }

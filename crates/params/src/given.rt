@@ -2,7 +2,7 @@ ghost use Rattle.std.specs.Prelude.{◌≡◌, List, ℕ, map, IfOk, IfErr, OnOk
 ghost use Rattle.std.specs.List.{list_any};
 ghost use Rattle.serde_json.specs.View.{view, members_view};
 ghost use Rattle.params.specs.Parameters as spec;
-ghost use Rattle.params.specs.Parameters.{is_too_long, unknown_member, unknown_name};
+ghost use Rattle.params.specs.Parameters.{is_too_long, required_in, optional_in, unknown_member, unknown_name};
 ghost use Rattle.params.specs.Reading.{IsBad, IsTooLong, IsUnknown};
 
 use crate::fault::Fault;
@@ -29,11 +29,10 @@ pub fn required<'a, K: Kind>(
     place: usize,
     name: &'a str,
 ) -> Result<K::Good, Fault<'a>>
-    ensures ok { IfOk result (λ good.
-        spec.required K.reads (spec.given (view params.now) place name.now) ≡ Some good) }
+    ensures ok { IfOk result (λ good. required_in K.reads (view params.now) place name.now ≡ Some good) }
     ensures good { IfOk result K.is_good }
     ensures err { IfErr result (λ fault.
-        IsBad fault name.now (spec.required K.reads (spec.given (view params.now) place name.now))) }
+        IsBad fault name.now (required_in K.reads (view params.now) place name.now)) }
 {
     let Some(value) = find(params, place, name) else {
         return Err(Fault::Param(name));
@@ -52,11 +51,10 @@ pub fn optional<'a, K: Kind>(
     place: usize,
     name: &'a str,
 ) -> Result<Option<K::Good>, Fault<'a>>
-    ensures ok { IfOk result (λ good.
-        spec.optional K.reads (spec.given (view params.now) place name.now) ≡ Some good) }
+    ensures ok { IfOk result (λ good. optional_in K.reads (view params.now) place name.now ≡ Some good) }
     ensures good { IfOk result (λ good. IfSome good K.is_good) }
     ensures err { IfErr result (λ fault.
-        IsBad fault name.now (spec.optional K.reads (spec.given (view params.now) place name.now))) }
+        IsBad fault name.now (optional_in K.reads (view params.now) place name.now)) }
 {
     let Some(value) = find(params, place, name) else {
         return Ok(None);

@@ -1,10 +1,9 @@
-ghost use Rattle.std.specs.Prelude.{◌≡◌, ◌∷◌, [], Ok, Some, IfOk, IfErr, IfSome, OnOk, option_map};
-ghost use Rattle.serde_json.specs.Data.{string};
+ghost use Rattle.std.specs.Prelude.{◌≡◌, Ok, IfOk, IfErr, IfSome, OnOk};
 ghost use Rattle.serde_json.specs.View.{view};
 ghost use Rattle.askrene_command.specs.Command.{IsGoodCommand, IsGoodName};
 ghost use Rattle.askrene_command.specs.declared.command.Command.TheVariants.{CreateLayer, RemoveLayer, ListLayers, DisableNode, Age};
-ghost use Rattle.params.specs.Methods.{layer_table, node_table, age_table, create_layer_in, remove_layer_in, list_layers_in, disable_node_in, age_in};
-ghost use Rattle.params.specs.Printed.{named, node_data, whole_data};
+ghost use Rattle.params.specs.Methods.{create_layer_in, remove_layer_in, list_layers_in, disable_node_in, age_in};
+ghost use Rattle.params.specs.Printed.{layer_params, list_layers_params, node_params, age_params};
 ghost use Rattle.params.specs.Reading.{IsFaultIn};
 
 use crate::fault::Fault;
@@ -89,9 +88,9 @@ pub fn read_age<'a>(alloc: Global, params: &'a Value) -> Result<Command, Fault<'
 #[tactic(auto, unfolding(crate::specs::Printed::put_all))]
 pub fn write_layer(alloc: Global, layer: &Name) -> Result<Value, NoMemory>
     requires { IsGoodName layer.now }
-    ensures value { IfOk result (λ value. view value ≡ named layer_table (Some (string layer.now) ∷ [])) }
-    ensures created { OnOk result (create_layer_in (named layer_table (Some (string layer.now) ∷ [])) ≡ Ok (CreateLayer layer.now)) }
-    ensures removed { OnOk result (remove_layer_in (named layer_table (Some (string layer.now) ∷ [])) ≡ Ok (RemoveLayer layer.now)) }
+    ensures value { IfOk result (λ value. view value ≡ layer_params layer.now) }
+    ensures created { OnOk result (create_layer_in (layer_params layer.now) ≡ Ok (CreateLayer layer.now)) }
+    ensures removed { OnOk result (remove_layer_in (layer_params layer.now) ≡ Ok (RemoveLayer layer.now)) }
 {
     let mut members = Map::new(alloc);
     put_required::<LayerName>(alloc, &mut members, "layer", layer)?;
@@ -102,8 +101,8 @@ pub fn write_layer(alloc: Global, layer: &Name) -> Result<Value, NoMemory>
 #[tactic(auto, unfolding(crate::specs::Printed::put_all))]
 pub fn write_list_layers(alloc: Global, layer: &Option<Name>) -> Result<Value, NoMemory>
     requires { IfSome layer.now IsGoodName }
-    ensures value { IfOk result (λ value. view value ≡ named layer_table (option_map string layer.now ∷ [])) }
-    ensures back { OnOk result (list_layers_in (named layer_table (option_map string layer.now ∷ [])) ≡ Ok (ListLayers layer.now)) }
+    ensures value { IfOk result (λ value. view value ≡ list_layers_params layer.now) }
+    ensures back { OnOk result (list_layers_in (list_layers_params layer.now) ≡ Ok (ListLayers layer.now)) }
 {
     let mut members = Map::new(alloc);
     put_optional::<LayerName>(alloc, &mut members, "layer", layer)?;
@@ -114,8 +113,8 @@ pub fn write_list_layers(alloc: Global, layer: &Option<Name>) -> Result<Value, N
 #[tactic(auto, unfolding(crate::specs::Printed::put_all))]
 pub fn write_disable_node(alloc: Global, layer: &Name, node: &NodeId) -> Result<Value, NoMemory>
     requires { IsGoodName layer.now }
-    ensures value { IfOk result (λ value. view value ≡ named node_table (Some (string layer.now) ∷ Some (node_data node.now) ∷ [])) }
-    ensures back { OnOk result (disable_node_in (named node_table (Some (string layer.now) ∷ Some (node_data node.now) ∷ [])) ≡ Ok (DisableNode layer.now node.now)) }
+    ensures value { IfOk result (λ value. view value ≡ node_params layer.now node.now) }
+    ensures back { OnOk result (disable_node_in (node_params layer.now node.now) ≡ Ok (DisableNode layer.now node.now)) }
 {
     let mut members = Map::new(alloc);
     put_required::<LayerName>(alloc, &mut members, "layer", layer)?;
@@ -127,8 +126,8 @@ pub fn write_disable_node(alloc: Global, layer: &Name, node: &NodeId) -> Result<
 #[tactic(auto, unfolding(crate::specs::Printed::put_all))]
 pub fn write_age(alloc: Global, layer: &Name, cutoff: u64) -> Result<Value, NoMemory>
     requires { IsGoodName layer.now }
-    ensures value { IfOk result (λ value. view value ≡ named age_table (Some (string layer.now) ∷ Some (whole_data cutoff) ∷ [])) }
-    ensures back { OnOk result (age_in (named age_table (Some (string layer.now) ∷ Some (whole_data cutoff) ∷ [])) ≡ Ok (Age layer.now cutoff)) }
+    ensures value { IfOk result (λ value. view value ≡ age_params layer.now cutoff) }
+    ensures back { OnOk result (age_in (age_params layer.now cutoff) ≡ Ok (Age layer.now cutoff)) }
 {
     let mut members = Map::new(alloc);
     put_required::<LayerName>(alloc, &mut members, "layer", layer)?;

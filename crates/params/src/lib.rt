@@ -10,6 +10,8 @@ mod kind;
 mod layer_methods;
 mod named;
 mod number_kinds;
+mod path_kind;
+mod reservation_methods;
 mod text_kinds;
 mod written;
 

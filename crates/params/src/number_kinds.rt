@@ -24,8 +24,9 @@ fn as_amount(number: u64) -> Option<u64>
     if number <= MAX { Some(number) } else { None }
 }
 
+/// The amount in msat that a value is, as a whole number or a text.
 #[tactic(auto, unfolding(crate::specs::Kinds::amount_value))]
-fn read_amount(value: &Value) -> Option<u64>
+pub fn read_amount(value: &Value) -> Option<u64>
     ensures value { result ≡ amount_value (view value.now) }
     ensures most { IfSome result (λ amount. amount ≤ MAX) }
 {

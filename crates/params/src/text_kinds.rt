@@ -1,5 +1,6 @@
 ghost use Rattle.std.specs.Prelude.{◌≡◌, Some, true};
 ghost use Rattle.serde_json.specs.Data.{string};
+ghost use Rattle.serde_json.specs.View.{view};
 ghost use Rattle.layer.specs.Name.{is_good_name};
 ghost use Rattle.params.specs.Kinds.{name_value, node_value, dir_value, inform_of, inform_value};
 ghost use Rattle.params.specs.Printed.{node_data, dir_data, inform_word, inform_data};
@@ -67,6 +68,14 @@ impl Kind for Node {
     }
 }
 
+/// The direction that a value's text writes.
+#[tactic(auto, unfolding(crate::specs::Kinds::dir_value))]
+pub fn read_dir(value: &Value) -> Option<Dir>
+    ensures { result ≡ dir_value (view value.now) }
+{
+    Dir::read(value.as_str()?).ok()
+}
+
 /// A direction of a channel, by its text.
 pub struct Direction;
 
@@ -79,12 +88,8 @@ impl Kind for Direction {
 
     ghost is_good = { λ _. Unit {0} };
 
-    #[tactic(auto, unfolding(crate::specs::Kinds::dir_value))]
     fn read(_alloc: Global, value: &Value) -> Result<Option<Dir>, NoMemory> {
-        match value.as_str() {
-            Some(text) => Ok(Dir::read(text).ok()),
-            None => Ok(None),
-        }
+        Ok(read_dir(value))
     }
 
     #[tactic(auto, unfolding(crate::specs::Kinds::dir_value))]

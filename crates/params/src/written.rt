@@ -7,6 +7,7 @@ ghost use Rattle.params.specs.Printed.{params_data};
 
 use crate::channel_methods::{write_bias_channel, write_inform_channel, write_update_channel};
 use crate::layer_methods::{write_age, write_disable_node, write_layer, write_list_layers};
+use crate::reservation_methods::{write_no_params, write_path};
 use askrene_command::Command;
 use plan_base::NoMemory;
 use serde_json::Value;
@@ -25,6 +26,9 @@ pub fn method_of(command: &Command) -> &'static str
         Command::BiasChannel { .. } => "askrene-bias-channel",
         Command::DisableNode { .. } => "askrene-disable-node",
         Command::Age { .. } => "askrene-age",
+        Command::Reserve { .. } => "askrene-reserve",
+        Command::Unreserve { .. } => "askrene-unreserve",
+        Command::ListReservations => "askrene-listreservations",
     }
 }
 
@@ -52,5 +56,7 @@ pub fn params_of(alloc: Global, command: &Command) -> Result<Value, NoMemory>
         Command::BiasChannel { layer, bias } => write_bias_channel(alloc, layer, bias),
         Command::DisableNode { layer, node } => write_disable_node(alloc, layer, node),
         Command::Age { layer, cutoff } => write_age(alloc, layer, *cutoff),
+        Command::Reserve { path } | Command::Unreserve { path } => write_path(alloc, path),
+        Command::ListReservations => Ok(write_no_params(alloc)),
     }
 }

@@ -4,6 +4,7 @@ use Rattle.serde_json.specs.Data.{Data, Members, boolean}
 use Rattle.serde_json.specs.Find.{of_integer, is_float}
 use Rattle.serde_json.specs.Written.{has_float, members_have_float}
 use Rattle.rpc_lines.specs.Reply.{value_in}
+use Rattle.plan_base.specs.declared.held.Reservation.{Reservation}
 use Rattle.layer.specs.declared.records.Created.{Created}
 use Rattle.layer.specs.declared.records.Update.{Update}
 use Rattle.layer.specs.declared.records.Constraint.{Constraint}
@@ -11,10 +12,10 @@ use Rattle.layer.specs.declared.records.Bias.{Bias}
 use Rattle.layer.specs.Layer.{LayerLists}
 use Rattle.askrene_command.specs.declared.reply.Listed.{Listed}
 use Rattle.askrene_command.specs.declared.reply.Refusal.{Refusal}
-use Rattle.askrene_command.specs.declared.reply.Refusal.TheVariants.{LayerExists, LayerUnknown, LayersFull, LayerFull}
+use Rattle.askrene_command.specs.declared.reply.Refusal.TheVariants.{LayerExists, LayerUnknown, LayersFull, LayerFull, NotReserved, ReservationsFull}
 use Rattle.askrene_command.specs.declared.reply.EventReply.{EventReply}
-use Rattle.askrene_command.specs.declared.reply.EventReply.TheVariants.{Done, Removed, Informed, Layers, Refused}
-use Rattle.plan_answer.specs.Records.{whole, member_if, list_data, node_data, bias_data, update_data, constraint_data, created_data, layer_data}
+use Rattle.askrene_command.specs.declared.reply.EventReply.TheVariants.{Done, Removed, Informed, Layers, Reservations, Refused}
+use Rattle.plan_answer.specs.Records.{whole, member_if, list_data, node_data, bias_data, update_data, constraint_data, created_data, reservation_data, layer_data}
 use Rattle.plan_answer.specs.EventReply.{learnt, listed_data, refusal_content, event_content}
 
 list_none : {T : Type 0} (prints : T → Data) → ((x : T) → has_float (prints x) ≡ false) → (list : List T) → has_float (list_data prints list) ≡ false
@@ -52,6 +53,10 @@ created_none : (channel : Created) → has_float (created_data channel) ≡ fals
 unfolding created_data
 created_none channel = refl
 
+reservation_none : (now : ℕ) (reservation : Reservation) → has_float (reservation_data now reservation) ≡ false
+unfolding reservation_data
+reservation_none now reservation = refl
+
 layer_none : (name : List ℕ) (lists : LayerLists) → has_float (layer_data name lists) ≡ false
 unfolding layer_data
 layer_none name lists =
@@ -73,6 +78,8 @@ refusal_none at (LayerExists layer) = refl
 refusal_none at (LayerUnknown layer) = refl
 refusal_none at (LayersFull count) = refl
 refusal_none at (LayerFull layer) = refl
+refusal_none at (NotReserved index) = refl
+refusal_none at (ReservationsFull length) = refl
 
 pub event_none : (at : ℕ) (reply : EventReply) → has_float (value_in (event_content at reply)) ≡ false
 unfolding event_content
@@ -80,4 +87,5 @@ event_none at Done = refl
 event_none at (Removed count) = refl
 event_none at (Informed constraint) = rw (list_none constraint_data constraint_none (learnt constraint)) refl
 event_none at (Layers layers) = rw (list_none listed_data listed_none layers) refl
+event_none at (Reservations now list) = rw (list_none (reservation_data now) (reservation_none now) list) refl
 event_none at (Refused refusal) = refusal_none at refusal

@@ -1,11 +1,12 @@
--- The records of a layer as JSON values. Keys ascend by their bytes; amounts are numbers in msat, ids are texts.
-use Rattle.std.specs.Prelude.{ℕ, List, map, Option, Some, None, codes}
+-- The records of a layer, and reservations, as JSON values. Keys ascend by their bytes; amounts are numbers in msat, ids are texts.
+use Rattle.std.specs.Prelude.{ℕ, ◌-◌, List, map, Option, Some, None, codes}
 use Rattle.serde_json.specs.Data.{Data, Members, number, unsigned, string, boolean, array, object, member, no_members}
 use Rattle.serde_json.specs.Find.{of_integer}
 use Rattle.serde_json.specs.View.{items_of}
 use Rattle.plan_base.specs.NodeId.{node_id_text}
 use Rattle.plan_base.specs.Scid.{scid_text}
 use Rattle.plan_base.specs.Dir.{Direction, dir_text}
+use Rattle.plan_base.specs.declared.held.Reservation.{Reservation}
 use Rattle.layer.specs.Layer.{LayerLists}
 use Rattle.layer.specs.declared.records.Created.{Created}
 use Rattle.layer.specs.declared.records.Update.{Update}
@@ -57,6 +58,14 @@ created_data channel =
     (member (codes "destination") (string (node_id_text channel.destination))
     (member (codes "short_channel_id") (string (scid_text channel.scid))
     (member (codes "source") (string (node_id_text channel.source)) no_members))))
+
+-- a reservation, listed at a moment: its age is 0 where it was made later than that, as a clock may step back
+unfoldable pub reservation_data : ℕ → Reservation → Data
+reservation_data now reservation =
+    object (member (codes "age_in_seconds") (whole (now - reservation.moment))
+    (member (codes "amount_msat") (whole reservation.amount)
+    (member (codes "caller") (whole reservation.caller)
+    (member (codes "short_channel_id_dir") (dir_data reservation.dir) no_members))))
 
 abbrev pub node_data : List ℕ → Data
 node_data node = string (node_id_text node)

@@ -1,12 +1,14 @@
+ghost use Rattle.std.specs.Prelude.{◌≡◌, IfOk};
 ghost use Rattle.serde_json.specs.Data.{boolean, string};
+ghost use Rattle.serde_json.specs.View.{view};
 ghost use Rattle.plan_base.specs.Scid.{scid_text};
-ghost use Rattle.plan_answer.specs.Records.{whole, dir_data, bias_data, update_data, constraint_data, created_data, node_data, layer_data};
+ghost use Rattle.plan_answer.specs.Records.{whole, list_data, dir_data, bias_data, update_data, constraint_data, created_data, reservation_data, node_data, layer_data};
 ghost use Rattle.plan_answer.specs.EventReply.{listed_data};
 
 use crate::printed::{Printed, put_given, put_list, put_value};
 use askrene_command::Listed;
 use layer::{Bias, Bound, Constraint, Created, Update};
-use plan_base::{Dir, NoMemory, NodeId, Scid};
+use plan_base::{Dir, NoMemory, NodeId, Reservation, Scid};
 use serde_json::{Map, Value, json, put};
 use std::alloc::Global;
 
@@ -148,4 +150,28 @@ impl Printed for Listed {
         put(&mut members, alloc, "layer", name)?;
         Ok(Value::Object(members))
     }
+}
+
+/// Reservations in their own order, as they are listed at a moment in seconds.
+pub fn reservation_list(alloc: Global, now: u64, list: &[Reservation]) -> Result<Value, NoMemory>
+    ensures { IfOk result (λ value. view value ≡ list_data (reservation_data now) list.now) }
+{
+    let mut values = Vec::new(alloc);
+    for reservation in list {
+        let value = reservation_value(alloc, now, reservation)?;
+        values.push(value)?;
+    }
+    Ok(Value::Array(values))
+}
+
+#[tactic(auto, unfolding(crate::specs::Records::reservation_data))]
+fn reservation_value(alloc: Global, now: u64, reservation: &Reservation) -> Result<Value, NoMemory>
+    ensures { IfOk result (λ value. view value ≡ reservation_data now reservation.now) }
+{
+    // a clock may step back: then the reservation is as new as can be
+    let age = now.saturating_sub(reservation.moment);
+    let dir = reservation.dir.write(alloc)?;
+    Ok(
+        json!(in alloc; {"age_in_seconds": age, "amount_msat": reservation.amount, "caller": reservation.caller, "short_channel_id_dir": dir})?,
+    )
 }

@@ -5,7 +5,7 @@ ghost use Rattle.rpc_lines.specs.Reply.{content_of, value_in};
 use super::*;
 use askrene_command::{EventReply, Listed, Refusal};
 use layer::{Bias, Bound, Constraint, Created, Layer, Name, Update};
-use plan_base::{Dir, Items, NoMemory, NodeId, Scid};
+use plan_base::{Dir, Items, NoMemory, NodeId, Reservation, Scid};
 use rpc_lines::{Body, Id, Reply, write_reply};
 use std::alloc::Global;
 
@@ -224,6 +224,71 @@ fn refusals(rt: HostRuntime) {
         let reply = EventReply::Refused(refusal);
         assert!(rt; says(alloc, event_body(alloc, at, &reply), text), "at {at}");
     }
+}
+
+// a reservation that was made at moment 100, as it is listed at this moment
+const RESERVATION_LISTS: &[(u64, &str)] = &[
+    (
+        130,
+        "{\"id\":null,\"jsonrpc\":\"2.0\",\"result\":{\"at\":1,\"reservations\":[{\"age_in_seconds\":30,\"amount_msat\":5,\"caller\":0,\"short_channel_id_dir\":\"100x1x0/0\"}]}}\n",
+    ),
+    (
+        90,
+        "{\"id\":null,\"jsonrpc\":\"2.0\",\"result\":{\"at\":1,\"reservations\":[{\"age_in_seconds\":0,\"amount_msat\":5,\"caller\":0,\"short_channel_id_dir\":\"100x1x0/0\"}]}}\n",
+    ),
+];
+
+fn listed_at(alloc: Global, now: u64) -> Option<EventReply> {
+    let mut list = Items::new(alloc);
+    list.push(Reservation {
+        dir: Dir::read("100x1x0/0").ok()?,
+        amount: 5,
+        caller: 0,
+        moment: 100,
+    })
+    .ok()?;
+    Some(EventReply::Reservations { now, list })
+}
+
+fn lists_reservations(alloc: Global, now: u64, text: &str) -> bool {
+    match listed_at(alloc, now) {
+        Some(reply) => says(alloc, event_body(alloc, 1, &reply), text),
+        None => false,
+    }
+}
+
+#[test]
+fn reservations(rt: HostRuntime) {
+    let alloc = rt.alloc();
+    for (now, text) in RESERVATION_LISTS {
+        assert!(rt; lists_reservations(alloc, *now, text), "now {now}");
+    }
+}
+
+fn refuses(alloc: Global, at: u64, refusal: Refusal, text: &str) -> bool {
+    let reply = EventReply::Refused(refusal);
+    says(alloc, event_body(alloc, at, &reply), text)
+}
+
+#[test]
+fn refusals_of_reservations(rt: HostRuntime) {
+    let alloc = rt.alloc();
+    assert!(rt;
+        refuses(
+            alloc,
+            2,
+            Refusal::NotReserved { index: 1 },
+            "{\"error\":{\"code\":305,\"data\":{\"at\":2,\"index\":1},\"message\":\"not reserved\"},\"id\":null,\"jsonrpc\":\"2.0\"}\n",
+        )
+    );
+    assert!(rt;
+        refuses(
+            alloc,
+            3,
+            Refusal::ReservationsFull { length: 65536 },
+            "{\"error\":{\"code\":307,\"data\":{\"at\":3,\"length\":65536},\"message\":\"too many reservations\"},\"id\":null,\"jsonrpc\":\"2.0\"}\n",
+        )
+    );
 }
 
 #[test]

@@ -1,5 +1,5 @@
-use Rattle.std.proofs.Common.{◌≡◌, sym}
-use Rattle.askrene_state.specs.Step.{listed_of}
+use Rattle.std.proofs.Common.{sym}
+use Rattle.askrene_state.specs.LayerSteps.{listed_of}
 use Rattle.askrene_state.proofs.Entries.{take_next}
 use Rattle.askrene_state.proofs.listing.list_all.Goals as goal
 

@@ -1,4 +1,3 @@
-use Rattle.std.proofs.Common.{arith}
 use Rattle.certificate.specs.declared.cert.CertArc.{CertArc}
 use Rattle.certificate.proofs.Tallied.{tally_turn, tally_all}
 use Rattle.certificate.proofs.balance.tally.Goals as goal

@@ -1,4 +1,4 @@
-use Rattle.std.proofs.Common.{ℕ, ◌≡◌, ◌+◌, ◌-◌, ◌*◌, ◌<◌, ◌≤◌, ◌^◌, Fits, length, arith, rules, sym, ap, refl, ◌∙◌, w64, get_or, true, false}
+use Rattle.std.proofs.Common.{◌≡◌, ◌+◌, ◌*◌, ◌≤◌, length, arith, rules, sym, ap, refl, ◌∙◌, get_or, true, false}
 use Rattle.std.specs.Char.{is_ascii_digit}
 use Rattle.certificate.proofs.Decimals.{digits_turn, digits_end, wide_small}
 use Rattle.certificate.proofs.number.wide_digits.Goals as goal

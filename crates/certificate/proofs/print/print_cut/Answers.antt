@@ -1,4 +1,4 @@
-use Rattle.flow_model.specs.declared.solve.Solved.TheVariants.{Flow, Cut}
+use Rattle.flow_model.specs.declared.solve.Solved.TheVariants.{Cut}
 use Rattle.certificate.proofs.Printed.{printed}
 use Rattle.certificate.proofs.print.print_cut.Goals as goal
 

@@ -1,4 +1,4 @@
-use Rattle.flow_model.specs.declared.solve.Solved.TheVariants.{Flow, Cut}
+use Rattle.flow_model.specs.declared.solve.Solved.TheVariants.{Flow}
 use Rattle.certificate.proofs.Printed.{printed}
 use Rattle.certificate.proofs.print.print_flow.Goals as goal
 

@@ -1,9 +1,6 @@
-use Rattle.std.proofs.Common.{ℕ, ◌≡◌, ◌<◌, ◌≤◌, ◌++◌, ◌∷◌, [], ◌∙◌, ap, sym, refl, arith, length, get_or}
-use Rattle.std.specs.Prelude.{zip, false}
-use Rattle.std.proofs.lemmas.Slice.Zip.{get_or-zip, length-zip}
-use Rattle.flow_model.specs.declared.instance.Arc.{Arc}
+use Rattle.std.specs.Prelude.{false}
 use Rattle.certificate.specs.Text as Text
-use Rattle.certificate.proofs.Printed.{one_more, all_of}
+use Rattle.certificate.proofs.Printed.{one_more}
 use Rattle.certificate.proofs.print.side_lines.Goals as goal
 
 pub loop-i-preserved : goal.loop-i-preserved

@@ -1,7 +1,5 @@
-use Rattle.std.proofs.Common.{ℕ, ◌≡◌, ◌++◌, ◌∷◌, [], take, map}
-use Rattle.std.specs.Prelude.{zip}
+use Rattle.std.proofs.Common.{◌≡◌, ◌++◌, take, map}
 use Rattle.std.specs.List.{concat}
-use Rattle.flow_model.specs.declared.instance.Arc.{Arc}
 use Rattle.certificate.specs.Text as Text
 use Rattle.certificate.proofs.print.side_lines.Given as goal
 

@@ -1,8 +1,5 @@
-use Rattle.std.proofs.Common.{◌<◌, ◌≡◌, ◌+◌, ◌∙◌, ap, sym, subst, arith, length, Ok, refl}
-use Rattle.std.specs.Prelude.{All}
+use Rattle.std.proofs.Common.{◌<◌, ap, arith, length}
 use Rattle.std.proofs.lemmas.List.Elements.{All-same}
-use Rattle.certificate.specs.Cert.{answer_of}
-use Rattle.certificate.specs.Reading.{read_answer}
 use Rattle.certificate.proofs.Texts.{arcs_read, body_read}
 use Rattle.certificate.proofs.reader.body.Goals as goal
 

@@ -1,4 +1,4 @@
-use Rattle.std.proofs.Common.{sym, ◌∙◌, arith}
+use Rattle.std.proofs.Common.{sym, ◌∙◌}
 use Rattle.certificate.proofs.ReadTurns.{lines_turn, lines_stop, lines_done}
 use Rattle.certificate.proofs.reader.lines.Goals as goal
 

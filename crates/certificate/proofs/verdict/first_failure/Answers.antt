@@ -1,6 +1,6 @@
 use Rattle.std.proofs.Common.{◌<◌, ◌≤◌}
 use Rattle.plan_base.specs.declared.amount.TheConstants.{MAX}
-use Rattle.std.proofs.lemmas.List.Elements.{All-same, All-weaker}
+use Rattle.std.proofs.lemmas.List.Elements.{All-same}
 use Rattle.certificate.proofs.Verdicts.{All-of_map}
 use Rattle.certificate.proofs.verdict.first_failure.Goals as goal
 

@@ -1,6 +1,5 @@
-use Rattle.std.proofs.Common.{◌≡◌, ◌∙◌, ap, sym, arith, ◌<◌, ◌-◌, length}
+use Rattle.std.proofs.Common.{arith}
 use Rattle.plan_base.specs.declared.fee.Toll.{Toll}
-use Rattle.fee_backward.specs.Hop.{amounts_of}
 use Rattle.fee_backward.proofs.Turns.{hops_turn}
 use Rattle.fee_backward.proofs.hop.hops.Goals as goal
 

@@ -1,5 +1,5 @@
-use Rattle.std.proofs.Common.{rules, ap, ◌∙◌, ℕ, suc, zero, ◌≡◌, ◌<◌, ◌≤◌, ◌≢◌, List, [], ◌∷◌, sym, subst, refl, arith, length}
-use Rattle.std.specs.Prelude.{All, AllPairs, slice_index}
+use Rattle.std.proofs.Common.{rules, ap, ◌∙◌, ◌≡◌, ◌<◌, ◌≤◌, [], ◌∷◌, sym, subst, refl, arith}
+use Rattle.std.specs.Prelude.{All, slice_index}
 use Rattle.std.proofs.lemmas.List.Elements.{All-cons, All-nil, All-same}
 use Rattle.std.proofs.lemmas.List.Kept.{AllPairs-cons}
 use Rattle.flow_model.specs.declared.instance.Arc.{Arc}

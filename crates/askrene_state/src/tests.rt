@@ -1,0 +1,106 @@
+ghost use Rattle.std.specs.Prelude.{◌≡◌, IfSome};
+ghost use Rattle.askrene_command.specs.Command.{IsGoodCommand, IsGoodPath};
+
+use crate::{Command, EventReply, Refusal, State};
+use layer::Name;
+use one_history::Object;
+use plan_base::{Dir, Held, Items, Reservation};
+use std::alloc::Global;
+
+fn held() -> Option<Held>
+    ensures { IfSome result (λ held. held.amount ≡ 5) }
+{
+    let dir = Dir::read("100x1x0/0").ok()?;
+    Some(Held { dir, amount: 5 })
+}
+
+fn once(alloc: Global) -> Option<Items<Held>>
+    ensures { IfSome result IsGoodPath }
+{
+    let item = held()?;
+    let mut path = Items::new(alloc);
+    path.push(item).ok()?;
+    Some(path)
+}
+
+fn twice(alloc: Global) -> Option<Items<Held>>
+    ensures { IfSome result IsGoodPath }
+{
+    let first = held()?;
+    let second = held()?;
+    let mut path = Items::new(alloc);
+    path.push(first).ok()?;
+    path.push(second).ok()?;
+    Some(path)
+}
+
+// Whether just the reservation stands that caller 3 made at moment 100.
+fn is_made_alone(list: &[Reservation]) -> bool {
+    match list {
+        [one] => one.amount == 5 && one.caller == 3 && one.moment == 100,
+        _ => false,
+    }
+}
+
+fn lists_at(reply: &EventReply, moment: u64) -> bool {
+    match reply {
+        EventReply::Reservations { now, list } => *now == moment && is_made_alone(list.as_slice()),
+        _ => false,
+    }
+}
+
+fn reserved(alloc: Global) -> Option<State> {
+    let mut state = State::fresh(alloc).ok()?;
+    let reserve = Command::Reserve { path: once(alloc)? };
+    let done = state.step(alloc, 3, 100, &reserve).ok()?;
+    if matches!(&done, EventReply::Done) {
+        Some(state)
+    } else {
+        None
+    }
+}
+
+fn is_refused(alloc: Global, state: &mut State) -> Option<bool> {
+    let path = twice(alloc)?;
+    let refused = state
+        .step(alloc, 4, 110, &Command::Unreserve { path })
+        .ok()?;
+    Some(matches!(
+        &refused,
+        EventReply::Refused(Refusal::NotReserved { index: 1 })
+    ))
+}
+
+fn reserved_and_kept(alloc: Global) -> Option<bool> {
+    let mut state = reserved(alloc)?;
+    let refused = is_refused(alloc, &mut state)?;
+    let listing = state.step(alloc, 4, 130, &Command::ListReservations).ok()?;
+    Some(refused && lists_at(&listing, 130) && is_made_alone(state.held()))
+}
+
+fn create(alloc: Global) -> Option<Command>
+    ensures { IfSome result IsGoodCommand }
+{
+    let layer = Name::read(alloc, "x").ok()?;
+    Some(Command::CreateLayer { layer })
+}
+
+fn created_once(alloc: Global) -> Option<bool> {
+    let mut state = State::fresh(alloc).ok()?;
+    let create = create(alloc)?;
+    let done = state.step(alloc, 0, 1, &create).ok()?;
+    let refused = state.step(alloc, 0, 2, &create).ok()?;
+    let name = Name::read(alloc, "x").ok()?;
+    Some(
+        matches!(&done, EventReply::Done)
+            && matches!(&refused, EventReply::Refused(Refusal::LayerExists { .. }))
+            && state.layers() == 1
+            && state.layer(&name).is_some(),
+    )
+}
+
+#[test]
+fn steps(rt: HostRuntime) {
+    assert!(rt; reserved_and_kept(rt.alloc()) == Some(true));
+    assert!(rt; created_once(rt.alloc()) == Some(true));
+}

@@ -1,0 +1,5 @@
+pub mod Unmarked
+mod Earliest
+mod Kept
+mod SetFree
+mod Good

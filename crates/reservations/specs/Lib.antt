@@ -1,0 +1,3 @@
+pub mod Reservations
+pub mod Reserved
+pub mod Marks

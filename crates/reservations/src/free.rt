@@ -1,0 +1,73 @@
+ghost use Rattle.std.specs.Prelude.{◌≡◌, ◌≤◌, ◌&&◌, not, length, Ok, Err, Some, None, IfOk, IfErr, OnOk, All, replicate, false, if◌then◌else◌};
+ghost use Rattle.plan_base.specs.Held.{IsGoodReservation};
+ghost use Rattle.reservations.specs.Reservations.{is_for, without_earliest, set_free};
+ghost use Rattle.reservations.specs.Marks.{unmarked};
+
+use crate::NotReserved;
+use plan_base::{Held, Reservation};
+
+// Whether a reservation with this mark is left for an item.
+fn is_left_for(item: &Held, reservation: &Reservation, mark: bool) -> bool
+    ensures { result ≡ (not mark && is_for item.now reservation.now) }
+{
+    !mark && reservation.amount == item.amount && reservation.dir == item.dir
+}
+
+// Marks the earliest reservation of an item that isn't marked, if there is one.
+fn mark_earliest(list: &[Reservation], marks: &mut [bool], item: &Held) -> bool
+    requires { length marks.old ≡ length list.now }
+    ensures marked { without_earliest item.now (unmarked list.now marks.old)
+        ≡ (if result then Some (unmarked list.now marks.new) else None) }
+    ensures len { length marks.new ≡ length marks.old }
+{
+    for place in 0..list.len() {
+        if is_left_for(item, &list[place], marks[place]) {
+            marks[place] = true;
+            return true;
+        }
+    }
+    false
+}
+
+/// Marks for each item the earliest reservation that isn't marked, up to the first item that finds none.
+pub fn mark_all(list: &[Reservation], marks: &mut [bool], path: &[Held]) -> Result<(), NotReserved>
+    requires { length marks.old ≡ length list.now }
+    ensures ok { OnOk result (set_free path.now 0 (unmarked list.now marks.old) ≡ Ok (unmarked list.now marks.new)) }
+    ensures err { IfErr result (λ refusal. set_free path.now 0 (unmarked list.now marks.old) ≡ Err refusal.index) }
+    ensures len { length marks.new ≡ length marks.old }
+{
+    for index in 0..path.len() {
+        if !mark_earliest(list, marks, &path[index]) {
+            return Err(NotReserved { index });
+        }
+    }
+    Ok(())
+}
+
+/// Drops the reservations that are marked. The others keep their order.
+#[tactic(auto, using(crate::proofs::Unmarked::unmarked_good))]
+pub fn drop_marked(list: &mut Vec<Reservation>, marks: &[bool])
+    requires { length marks.now ≡ length list.old.items }
+    ensures kept { list.new.items ≡ unmarked list.old.items marks.now }
+    ensures shorter { length list.new.items ≤ length list.old.items }
+    ensures good { All IsGoodReservation list.old.items → All IsGoodReservation list.new.items }
+{
+    let mut kept = 0;
+    for place in 0..list.len() {
+        let reservation = list[place];
+        if !marks[place] {
+            list[kept] = reservation;
+            kept += 1;
+        }
+    }
+    list.truncate(kept);
+}
+
+/// Leaves so many marks, none of which is set.
+pub fn clear(marks: &mut Vec<bool>, count: usize)
+    requires { count ≤ length marks.old.items }
+    ensures { marks.new.items ≡ replicate count false }
+{
+    marks.truncate(count);
+    marks.fill(false);
+}
