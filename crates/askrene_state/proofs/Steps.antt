@@ -1,5 +1,5 @@
 -- What a change of the entries of the map is as a step of the layers.
-use Rattle.std.proofs.Common.{◌≡◌, ◌-◌, ◌<◌, ℕ, List, [], ◌∷◌, ◌++◌, length, Bool, true, false, nat_eq, nat_lt, Some, None, Option, refl, IfSome, IsSome}
+use Rattle.std.proofs.Common.{◌≡◌, ◌≢◌, ◌-◌, ◌<◌, ap, ℕ, List, [], ◌∷◌, ◌++◌, length, Bool, true, false, nat_eq, nat_lt, Some, None, Option, refl, IfSome, IsSome, Result, Ok, Err, OnErr}
 use Rattle.std.specs.List.{position, slice_get}
 use Rattle.std.specs.Option.{is_some}
 use Rattle.std.specs.Map.{keys_of, values_of}
@@ -12,10 +12,11 @@ use Rattle.layer_ops.specs.declared.refusal.LayerRefusal.{LayerRefusal}
 use Rattle.askrene_command.specs.declared.reply.EventReply.TheVariants.{Done as EventDone, Removed, Layers, Refused}
 use Rattle.askrene_command.specs.declared.reply.Refusal.TheVariants.{LayerUnknown}
 use Rattle.askrene_state.specs.declared.edit.Edit.{Edit}
+use Rattle.askrene_state.specs.declared.edit.Edited.{Edited}
 use Rattle.askrene_state.specs.declared.edit.Edited.TheVariants.{Done, Unknown, Full}
 use Rattle.askrene_state.specs.declared.layers.TheConstants.{LAYERS_MAX}
 use Rattle.askrene_state.specs.Edit.{edited, refusal_of}
-use Rattle.askrene_state.specs.Layers.{NamedLayers, has_name, layer_in, edit_in, edit_unless}
+use Rattle.askrene_state.specs.Layers.{NamedLayers, has_name, layer_in, edit_in, edit_found, edit_unless}
 use Rattle.askrene_state.specs.LayerSteps.{create_in, list_in, listed_of, age_in}
 use Rattle.askrene_state.proofs.Entries.{set_found, none_there}
 
@@ -107,3 +108,23 @@ list_unknown layers name none = rw none refl
 pub list_one : (layers : NamedLayers) (name : List ℕ) (lists : LayerLists) → layer_in layers name ≡ Some lists
     → Layers (listed_of (name, lists) ∷ []) ≡ list_in layers (Some name)
 list_one layers name lists found = rw found refl
+
+-- a change that isn't made leaves the layers as they were
+unedited_unless : (layers new : NamedLayers) (name : List ℕ) (lists : LayerLists) (told : Edited) (refusal : Option LayerRefusal)
+    → (new, told) ≡ edit_unless layers name lists refusal → told ≢ Done → new ≡ layers
+unedited_unless layers new name lists told None is other = absurd (other (ap (λ p. p.1) is))
+unedited_unless layers new name lists told (Some refusal) is other = ap (λ p. p.0) is
+
+unedited_found : (layers new : NamedLayers) (name : List ℕ) (edit : Edit) (told : Edited) (found : Option LayerLists)
+    → (new, told) ≡ edit_found layers name edit found → told ≢ Done → new ≡ layers
+unedited_found layers new name edit told None is other = ap (λ p. p.0) is
+unedited_found layers new name edit told (Some lists) is other = unedited_unless layers new name (edited edit lists) told (refusal_of edit lists) is other
+
+pub unedited : (layers new : NamedLayers) (name : List ℕ) (edit : Edit) (told : Edited) → (new, told) ≡ edit_in layers name edit → told ≢ Done → new ≡ layers
+unfolding edit_in
+unedited layers new name edit told is other = unedited_found layers new name edit told (layer_in layers name) is other
+
+-- what holds after a refusal, and follows from it
+pub after_refusal : {T E : Type 0} {P Q : Type 0} (result : Result T E) → OnErr result P → (P → Q) → OnErr result Q
+after_refusal (Ok value) holds follows = tt
+after_refusal (Err fault) holds follows = follows holds

@@ -1,4 +1,4 @@
-ghost use Rattle.std.specs.Prelude.{◌≡◌, ◌≤◌, ◌-◌, ℕ, length, IfOk, OnErr, IfSome, Option, option_map};
+ghost use Rattle.std.specs.Prelude.{◌≡◌, ◌≢◌, ◌≤◌, ◌-◌, ℕ, length, IfOk, OnErr, IfSome, Option, option_map};
 ghost use Rattle.std.specs.Prelude.{◌<◌, slice_get, OnOk, IsSome, None};
 ghost use Rattle.indexmap.specs.IndexMap.{values, index_map_len, set_value_at};
 ghost use Rattle.layer.specs.Layer.{LayerLists};
@@ -84,10 +84,12 @@ impl Layers {
         ensures step { IfOk result (λ reply. (self.new, reply) ≡ remove_in self.old layer.now) }
         ensures err { OnErr result (self.new ≡ self.old) }
     {
-        let name = layer.copy(alloc)?;
         match self.layers.shift_remove(layer) {
             Some(_) => Ok(EventReply::Done),
-            None => Ok(EventReply::Refused(Refusal::LayerUnknown { layer: name })),
+            None => {
+                let layer = layer.copy(alloc)?;
+                Ok(EventReply::Refused(Refusal::LayerUnknown { layer }))
+            }
         }
     }
 
@@ -137,9 +139,8 @@ impl Layers {
         ensures step { IfOk result (λ told. (self.new, told) ≡ change_in self.old layer.now edit reply) }
         ensures err { OnErr result (self.new ≡ self.old) }
     {
-        let name = layer.copy(alloc)?;
         let edited = self.edit(layer, edit)?;
-        Ok(told(edited, name, reply))
+        told(alloc, edited, layer, reply)
     }
 
     /// Adds what was learnt, if anything, to the layer with this name.
@@ -180,9 +181,9 @@ impl Layers {
         ensures step { IfOk result (λ reply. (self.new, reply) ≡ age_in self.old layer.now cutoff) }
         ensures err { OnErr result (self.new ≡ self.old) }
     {
-        let name = layer.copy(alloc)?;
         let Some(place) = self.layers.get_index_of(layer) else {
-            return Ok(EventReply::Refused(Refusal::LayerUnknown { layer: name }));
+            let layer = layer.copy(alloc)?;
+            return Ok(EventReply::Refused(Refusal::LayerUnknown { layer }));
         };
         let count = age_at(&mut self.layers, place, cutoff);
         Ok(EventReply::Removed { count })
@@ -224,14 +225,26 @@ fn age_at(layers: &mut IndexMap<Name, Layer>, place: usize, cutoff: u64) -> u32
     layer_ops::age(layer, cutoff)
 }
 
-// What the caller of a change is told.
-fn told(edited: Edited, layer: Name, reply: EventReply) -> EventReply
-    ensures { result ≡ told_of layer reply edited }
+// What the caller of a change is told. Memory may be wanting only where the change was refused.
+fn told(
+    alloc: Global,
+    edited: Edited,
+    layer: &Name,
+    reply: EventReply,
+) -> Result<EventReply, NoMemory>
+    ensures told { IfOk result (λ told. told ≡ told_of layer.now reply edited) }
+    ensures err { OnErr result (edited ≢ Edited.Done) }
 {
     match edited {
-        Edited::Done => reply,
-        Edited::Unknown => EventReply::Refused(Refusal::LayerUnknown { layer }),
-        Edited::Full => EventReply::Refused(Refusal::LayerFull { layer }),
+        Edited::Done => Ok(reply),
+        Edited::Unknown => {
+            let layer = layer.copy(alloc)?;
+            Ok(EventReply::Refused(Refusal::LayerUnknown { layer }))
+        }
+        Edited::Full => {
+            let layer = layer.copy(alloc)?;
+            Ok(EventReply::Refused(Refusal::LayerFull { layer }))
+        }
     }
 }
 

@@ -1,8 +1,9 @@
 -- The search for the earliest reservation of an item that is left, place by place.
-use Rattle.std.proofs.Common.{◌≡◌, ◌<◌, ◌≤◌, ◌+◌, ℕ, List, [], ◌∷◌, ◌++◌, length, take, drop, Bool, true, false, not, cond, Some, None, Option, refl, ap, sym, ◌∙◌}
+use Rattle.std.proofs.Common.{◌≡◌, ◌<◌, ◌≤◌, ◌+◌, ℕ, List, [], ◌∷◌, ◌++◌, length, take, drop, suc, Bool, true, false, not, cond, Some, None, Option, refl, ap, sym, ◌∙◌, arith}
 use Rattle.std.specs.Prelude.{◌&&◌, option_map}
+use Rattle.std.specs.List.{remove}
 use lib.ListN.{get_or, set}
-use Rattle.std.proofs.lemmas.List.{append-nil, append_assoc, drop_all}
+use Rattle.std.proofs.lemmas.List.{append-nil, append_assoc, drop_all, drop_more, take_more}
 use Rattle.plan_base.specs.declared.held.Held.{Held}
 use Rattle.plan_base.specs.declared.held.Reservation.{Reservation}
 use Rattle.reservations.specs.Reservations.{is_for, without_earliest}
@@ -77,3 +78,35 @@ find_end item list marks i past =
     ap (λ l. behind (unmarked (take i list) (take i marks)) (without_earliest item (unmarked l (drop i marks)))) (drop_all i list past)
     ∙ ap (λ l. behind (unmarked (take i list) (take i marks)) (without_earliest item l)) (unmarked_none (drop i marks))
     ∙ ap (behind (unmarked (take i list) (take i marks))) (without_none item)
+
+-- ---- the same in a list without marks
+
+abbrev pub found_behind : Held → List Reservation → ℕ → Option (List Reservation)
+found_behind item list i = behind (take i list) (without_earliest item (drop i list))
+
+behind_none : (found : Option (List Reservation)) → found ≡ behind [] found
+behind_none None = refl
+behind_none (Some rest) = refl
+
+pub start_one : (item : Held) (list : List Reservation) → without_earliest item list ≡ found_behind item list 0
+start_one item list = behind_none (without_earliest item list)
+
+rest_at : (list : List Reservation) (i : ℕ) (r : Reservation) → i < length list → r ≡ get_or list i r → drop i list ≡ r ∷ drop (i + 1) list
+rest_at list i r within reads = drop_more list i r within ∙ ap (λ x. x ∷ drop (i + 1) list) (sym reads)
+
+pub pass_one : (item : Held) (list : List Reservation) (i : ℕ) (r : Reservation) → i < length list → r ≡ get_or list i r → is_for item r ≡ false
+    → found_behind item list i ≡ found_behind item list (i + 1)
+pass_one item list i r within reads other =
+    let later = without_earliest item (drop (i + 1) list) in
+    ap (λ l. behind (take i list) (without_earliest item l)) (rest_at list i r within reads) ∙ ap (behind (take i list)) (without_other item r (drop (i + 1) list) other)
+    ∙ behind_one (take i list) r later ∙ ap (λ l. behind l later) (ap (λ x. take i list ++ x ∷ []) reads ∙ sym (take_more list i r within))
+
+pub find_one : (item : Held) (list : List Reservation) (i : ℕ) (r : Reservation) → i < length list → r ≡ get_or list i r → is_for item r ≡ true
+    → found_behind item list i ≡ Some (remove list i)
+find_one item list i r within reads this =
+    let next : i + 1 ≡ suc i = omega arith in
+    ap (λ l. behind (take i list) (without_earliest item l)) (rest_at list i r within reads) ∙ ap (behind (take i list)) (without_this item r (drop (i + 1) list) this)
+    ∙ ap (λ n. Some (take i list ++ drop n list)) next
+
+pub end_one : (item : Held) (list : List Reservation) (i : ℕ) → length list ≤ i → found_behind item list i ≡ None
+end_one item list i past = ap (λ l. behind (take i list) (without_earliest item l)) (drop_all i list past) ∙ ap (behind (take i list)) (without_none item)

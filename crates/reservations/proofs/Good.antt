@@ -1,7 +1,7 @@
 -- What is reserved is good where its items are.
-use Rattle.std.proofs.Common.{◌≡◌, ◌≤◌, ◌+◌, ℕ, List, ◌++◌, length, map, replicate, Bool, false, ap, sym, ◌∙◌, arith}
+use Rattle.std.proofs.Common.{◌≡◌, ◌≤◌, ◌+◌, ℕ, List, ◌++◌, length, map, take, replicate, Bool, false, ap, sym, ◌∙◌, arith}
 use Rattle.std.specs.Prelude.{All}
-use Rattle.std.proofs.lemmas.List.{length-append, replicate-append-replicate}
+use Rattle.std.proofs.lemmas.List.{length-append, replicate-append-replicate, take-replicate}
 use Rattle.std.proofs.lemmas.List.Elements.{All-append, All-map}
 use Rattle.std.proofs.lemmas.List.{length-map}
 use Rattle.plan_base.specs.Held.{IsGoodHeld, IsGoodReservation}
@@ -27,3 +27,7 @@ pub clear_reserved : (list new : List Reservation) (path : List Held) (moment ca
 clear_reserved list new path moment caller marks now is clear more =
     more ∙ ap (λ m. m ++ replicate (length path) false) clear ∙ replicate-append-replicate (length list) (length path) false
     ∙ ap (λ n. replicate n false) (sym (ap length is ∙ long list path moment caller))
+
+-- fewer marks, none of which is set
+pub clear_fewer : (n m : ℕ) (marks now : List Bool) → marks ≡ replicate n false → now ≡ take m marks → m ≤ n → now ≡ replicate m false
+clear_fewer n m marks now clear is fewer = is ∙ ap (take m) clear ∙ take-replicate m n false fewer

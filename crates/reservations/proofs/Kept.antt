@@ -1,7 +1,9 @@
 -- Reservations that stay are moved to the front, in place.
-use Rattle.std.proofs.Common.{◌≡◌, ◌<◌, ◌≤◌, ◌+◌, ℕ, List, [], ◌∷◌, ◌++◌, length, take, drop, Bool, true, false, cond, ap, sym, ◌∙◌, arith}
+use Rattle.std.specs.Prelude.{IfSome, slice_get, slice_set}
+use Rattle.std.proofs.lemmas.Option.{slice_get_cases}
+use Rattle.std.proofs.Common.{◌≡◌, ◌<◌, ◌≤◌, ◌+◌, ◌⊎◌, inl, inr, Some, None, ℕ, List, [], ◌∷◌, ◌++◌, length, take, drop, Bool, true, false, cond, refl, ap, sym, ◌∙◌, subst, arith}
 use lib.ListN.{get_or, set}
-use Rattle.std.proofs.lemmas.List.{append-nil, drop_more, take_more_set, take_all, drop-set-lt, length-set}
+use Rattle.std.proofs.lemmas.List.{set-get_or, append-nil, drop_more, take_more_set, take_all, drop-set-lt, length-set}
 use Rattle.plan_base.specs.declared.held.Reservation.{Reservation}
 use Rattle.reservations.specs.Marks.{unmarked}
 use Rattle.reservations.proofs.Unmarked.{unmarked_more}
@@ -46,5 +48,29 @@ module _ {old now : List Reservation} {marks : List Bool} {kept i : ℕ} where
     long = length-set now kept r ∙ h.long;
   }
 
+  -- the same by what a call says, whatever stands at the place
+  pub keeps_dropped : KeepsInPlace old now marks kept i → length marks ≡ length old → i < length now → get_or marks i false ≡ true → KeepsInPlace old now marks kept (i + 1)
+  keeps_dropped h same below gone = at (slice_get_cases now i).1
+    where
+      at : ((x : Reservation) × (i < length now) × (slice_get now i ≡ Some x) × (get_or now i x ≡ x)) ⊎ ((length now ≤ i) × (slice_get now i ≡ None)) → KeepsInPlace old now marks kept (i + 1)
+      at (inl found) = keeps_drop h same below (sym found.3) refl gone
+      at (inr past) = absurd (omega (arith, below, past.0))
+
+  pub keeps_moved : {new : List Reservation} → KeepsInPlace old now marks kept i → length marks ≡ length old → i < length now → get_or marks i false ≡ false
+      → IfSome (slice_get now i) (λ x. new ≡ slice_set now kept x) → KeepsInPlace old new marks (kept + 1) (i + 1)
+  keeps_moved {new} h same below stays moved = at (slice_get_cases now i).1
+    where
+      at : ((x : Reservation) × (i < length now) × (slice_get now i ≡ Some x) × (get_or now i x ≡ x)) ⊎ ((length now ≤ i) × (slice_get now i ≡ None)) → KeepsInPlace old new marks (kept + 1) (i + 1)
+      at (inl found) = let is : new ≡ slice_set now kept found.0 = rw found.2 at moved in subst (λ l. KeepsInPlace old l marks (kept + 1) (i + 1)) (sym is) (keeps_move h same below (sym found.3) refl stays)
+      at (inr past) = absurd (omega (arith, below, past.0))
+
   pub keeps_all : KeepsInPlace old now marks kept i → length marks ≡ length old → length old ≤ i → take kept now ≡ unmarked old marks
   keeps_all h same past = h.front ∙ (λ t. unmarked (take_all i old past t) (take_all i marks (omega (arith, same, past)) t))
+
+-- a reservation that stays at its place
+pub stays_put : (list : List Reservation) (from to : ℕ) → to ≡ from → IfSome (slice_get list from) (λ r. list ≡ slice_set list to r)
+stays_put list from to same = at (slice_get_cases list from).1
+  where
+    at : ((x : Reservation) × (from < length list) × (slice_get list from ≡ Some x) × (get_or list from x ≡ x)) ⊎ ((length list ≤ from) × (slice_get list from ≡ None)) → IfSome (slice_get list from) (λ r. list ≡ slice_set list to r)
+    at (inl found) = rw (found.2, same) (sym (ap (λ y. set list from y) (sym found.3) ∙ set-get_or list from found.0))
+    at (inr past) = rw past.1 tt

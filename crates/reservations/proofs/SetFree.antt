@@ -35,3 +35,10 @@ stops path item i list within reads is = first_at path item i list None within r
 
 pub all_free : (path : List Held) (i : ℕ) (list : List Reservation) → length path ≤ i → set_free (drop i path) i list ≡ Ok list
 all_free path i list past = ap (λ p. set_free p i list) (drop_all i path past) ∙ set_free_none i list
+
+-- one item alone
+pub one_free : (item : Held) (list left : List Reservation) → without_earliest item list ≡ Some left → set_free (item ∷ []) 0 list ≡ Ok left
+one_free item list left is = set_free_first item [] 0 list ∙ ap (λ o. left_or 0 (option_map (set_free [] 1) o)) is ∙ set_free_none 1 left
+
+pub one_refused : (item : Held) (list : List Reservation) → without_earliest item list ≡ None → set_free (item ∷ []) 0 list ≡ Err 0
+one_refused item list is = set_free_first item [] 0 list ∙ ap (λ o. left_or 0 (option_map (set_free [] 1) o)) is

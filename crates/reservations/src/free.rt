@@ -1,4 +1,4 @@
-ghost use Rattle.std.specs.Prelude.{◌≡◌, ◌≤◌, ◌&&◌, not, length, Ok, Err, Some, None, IfOk, IfErr, OnOk, All, replicate, false, if◌then◌else◌};
+ghost use Rattle.std.specs.Prelude.{◌≡◌, ◌<◌, ◌≤◌, ◌&&◌, not, length, Ok, Err, Some, None, IfOk, IfErr, IfSome, OnOk, slice_get, slice_set, All, replicate, false, if◌then◌else◌};
 ghost use Rattle.plan_base.specs.Held.{IsGoodReservation};
 ghost use Rattle.reservations.specs.Reservations.{is_for, without_earliest, set_free};
 ghost use Rattle.reservations.specs.Marks.{unmarked};
@@ -10,7 +10,7 @@ use plan_base::{Held, Reservation};
 fn is_left_for(item: &Held, reservation: &Reservation, mark: bool) -> bool
     ensures { result ≡ (not mark && is_for item.now reservation.now) }
 {
-    !mark && reservation.amount == item.amount && reservation.dir == item.dir
+    reservation.amount == item.amount && !mark && reservation.dir == item.dir
 }
 
 // Marks the earliest reservation of an item that isn't marked, if there is one.
@@ -54,13 +54,24 @@ pub fn drop_marked(list: &mut Vec<Reservation>, marks: &[bool])
 {
     let mut kept = 0;
     for place in 0..list.len() {
-        let reservation = list[place];
         if !marks[place] {
-            list[kept] = reservation;
+            move_down(list, place, kept);
             kept += 1;
         }
     }
     list.truncate(kept);
+}
+
+// Moves a reservation to an earlier place, or leaves it at its own.
+fn move_down(list: &mut Vec<Reservation>, from: usize, to: usize)
+    requires within { from < length list.old.items }
+    requires down { to ≤ from }
+    ensures { IfSome (slice_get list.old.items from)
+        (λ reservation. list.new.items ≡ slice_set list.old.items to reservation) }
+{
+    if to < from {
+        list[to] = list[from];
+    }
 }
 
 /// Leaves so many marks, none of which is set.

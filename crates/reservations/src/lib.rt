@@ -3,6 +3,7 @@
 
 mod free;
 mod list;
+mod one;
 mod refusal;
 mod sum;
 #[cfg(test)]

@@ -1,8 +1,9 @@
-ghost use Rattle.std.specs.Prelude.{◌≡◌, ◌+◌, ◌≤◌, [], ◌++◌, length, replicate, All, Ok, Err, IfErr, OnOk, OnErr, false, vec_len, vec_capacity};
+ghost use Rattle.std.specs.Prelude.{◌≡◌, ◌+◌, ◌≤◌, [], ◌∷◌, ◌++◌, length, replicate, All, Ok, Err, IfErr, OnOk, OnErr, false, vec_len, vec_capacity};
 ghost use Rattle.plan_base.specs.Held.{IsGoodHeld};
 ghost use Rattle.reservations.specs.Reservations.{with_reserved, refusal_of_reserve, IsGoodList, IsRefusedFor, set_free};
 
 use crate::free::{clear, drop_marked, mark_all};
+use crate::one::free_one;
 use crate::{NotReserved, ReserveRefusal};
 use plan_base::{Held, NoMemory, Reservation};
 use std::alloc::Global;
@@ -73,6 +74,9 @@ impl Reservations {
         ensures err { OnErr result (self.new ≡ self.old) }
         ensures refusal { IfErr result (λ refusal. set_free path.now 0 self.old ≡ Err refusal.index) }
     {
+        if let [item] = path {
+            return self.unreserve_one(item);
+        }
         match mark_all(&self.list, &mut self.marks, path) {
             Ok(()) => {
                 drop_marked(&mut self.list, &self.marks);
@@ -84,6 +88,19 @@ impl Reservations {
                 Err(refusal)
             }
         }
+    }
+
+    // One item needs no marks: its reservation can go at once.
+    fn unreserve_one(&mut self, item: &Held) -> Result<(), NotReserved>
+        ensures ok { OnOk result (set_free (item.now ∷ []) 0 self.old ≡ Ok self.new) }
+        ensures err { OnErr result (self.new ≡ self.old) }
+        ensures refusal { IfErr result (λ refusal. set_free (item.now ∷ []) 0 self.old ≡ Err refusal.index) }
+    {
+        if !free_one(&mut self.list, item) {
+            return Err(NotReserved { index: 0 });
+        }
+        self.marks.truncate(self.list.len());
+        Ok(())
     }
 }
 

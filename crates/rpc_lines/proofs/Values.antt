@@ -1,5 +1,5 @@
 -- From what the JSON crate and its map say to the words of a request.
-use Rattle.std.proofs.Common.{◌≡◌, ℕ, List, Bool, true, false, Option, Some, None, option_map, if◌then◌else◌, cond, String, BTreeMap, Global, string_bytes, string_cmp, nat_cmp, bytes_eq, length, refl, sym, ap, ◌∙◌}
+use Rattle.std.proofs.Common.{◌≡◌, ℕ, List, Bool, true, false, Option, Some, None, option_map, if◌then◌else◌, cond, String, BTreeMap, Global, string_bytes, string_cmp, nat_cmp, bytes_eq, refl, sym, ap, ◌∙◌}
 use Rattle.std.specs.Str.{IsUtf8, is_utf8}
 use Rattle.std.specs.Cmp.Lexicographic.{slice_cmp}
 use Rattle.std.specs.BTreeMap as tree

@@ -8,6 +8,7 @@ use crate::request::{Id, Request, RpcFault};
 use plan_base::{NoMemory, Text};
 use serde_json::{Map, Value};
 use std::alloc::Global;
+use std::mem;
 
 /// Reads the request of one line, without its LF (JSON-RPC 2.0, one request a line). `jsonrpc` and unknown keys are
 /// ignored, and of a key that stands twice the last value counts.
@@ -57,7 +58,7 @@ fn request_in(alloc: Global, mut members: Map<String, Value>) -> Result<Request,
     Ok(Request { id, method, params })
 }
 
-/// Moves a member's value out of an object; the other members stay.
+/// Moves a member's value out of an object, and leaves null in its place; the other members stay.
 #[tactic(auto, using(crate::proofs::Values::taken_member, crate::proofs::Values::other_member))]
 fn take(members: &mut Map<String, Value>, name: &str) -> Option<Value>
     ensures value { option_map view result ≡ get_member name.now (members_view members.old.entries) }
@@ -65,7 +66,10 @@ fn take(members: &mut Map<String, Value>, name: &str) -> Option<Value>
         → get_member other (members_view members.new.entries)
         ≡ get_member other (members_view members.old.entries) }
 {
-    members.remove(name)
+    match members.get_mut(name) {
+        Some(value) => Some(mem::replace(value, Value::Null)),
+        None => None,
+    }
 }
 
 fn id_from(member: Option<Value>) -> Option<Id>

@@ -2,7 +2,7 @@ use Rattle.std.proofs.Common.{refl, sym, ◌∙◌, arith}
 use Rattle.plan_base.specs.Held.{IsGoodReservation}
 use Rattle.std.proofs.lemmas.List.Elements.{All-same}
 use Rattle.reservations.proofs.Unmarked.{unmarked_none, unmarked_good}
-use Rattle.reservations.proofs.Kept.{keeps_move, keeps_drop, keeps_all}
+use Rattle.reservations.proofs.Kept.{keeps_moved, keeps_dropped, keeps_all}
 use Rattle.reservations.proofs.free.drop_marked.Goals as goal
 use Rattle.reservations.proofs.free.drop_marked.Goals.{then-not-marks-place, else-not-marks-place}
 
@@ -12,9 +12,9 @@ loop-place-init c = record { front = sym (unmarked_none _); rest = refl; behind 
 pub loop-place-preserved : goal.loop-place-preserved
 loop-place-preserved c = elim c.if-not-marks-place.branch [
   | then-not-marks-place w ↦ rw (w.list-is, w.kept-is)
-      (keeps_move c.loop-place.invariant c.requires (omega (arith, c.loop-place-test.true, c.len-place-end.ensures, c.loop-place.invariant.long)) c.index-reservation.ensures refl w.if-not-marks-place.true)
+      (keeps_moved c.loop-place.invariant c.requires (omega (arith, c.loop-place-test.true, c.len-place-end.ensures, c.loop-place.invariant.long)) w.if-not-marks-place.true w.move_down.ensures)
   | else-not-marks-place w ↦ rw (w.list-is, w.kept-is)
-      (keeps_drop c.loop-place.invariant c.requires (omega (arith, c.loop-place-test.true, c.len-place-end.ensures, c.loop-place.invariant.long)) c.index-reservation.ensures refl w.if-not-marks-place.false)
+      (keeps_dropped c.loop-place.invariant c.requires (omega (arith, c.loop-place-test.true, c.len-place-end.ensures, c.loop-place.invariant.long)) w.if-not-marks-place.false)
 ]
 
 pub returns-clause-kept : goal.returns-clause-kept

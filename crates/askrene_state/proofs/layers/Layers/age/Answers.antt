@@ -5,7 +5,7 @@ use Rattle.askrene_state.proofs.layers.Layers.age.Goals as goal
 
 pub returns-in_default-clause-step : goal.returns-in_default-clause-step
 returns-in_default-clause-step c =
-    rw (c.in_ok-name.ensures, ← c.self.view_is) (age_unknown c.self.inside.layers.entries c.args.layer.now c.args.cutoff (none_there _ (sym c.in_default.ensures.found)))
+    rw (c.in_ok-layer.ensures, ← c.self.view_is) (age_unknown c.self.inside.layers.entries c.args.layer.now c.args.cutoff (none_there _ (sym c.in_default.ensures.found)))
 
 pub returns-clause-step : goal.returns-clause-step
 returns-clause-step c =
