@@ -35,7 +35,7 @@ fn told(alloc: Global, at: u64, reply: &EventReply) -> Result<Body, NoMemory>
     ensures { IfOk result (λ body. content_of body ≡ event_content at reply.now) }
 {
     match reply {
-        EventReply::Done => Ok(Body::Result(done_value(alloc, at)?)),
+        EventReply::Done => Ok(Body::Place { at }),
         EventReply::Removed { count } => Ok(Body::Result(removed_value(alloc, at, *count)?)),
         EventReply::Informed { constraint } => {
             Ok(Body::Result(informed_value(alloc, at, constraint)?))
@@ -66,12 +66,6 @@ fn refused(alloc: Global, at: u64, refusal: &Refusal) -> Result<Body, NoMemory>
             number_body(alloc, 307, "too many reservations", at, "length", *length)
         }
     }
-}
-
-fn done_value(alloc: Global, at: u64) -> Result<Value, NoMemory>
-    ensures { IfOk result (λ value. view value ≡ at_place at no_members) }
-{
-    Ok(json!(in alloc; {"at": at})?)
 }
 
 fn removed_value(alloc: Global, at: u64, count: u32) -> Result<Value, NoMemory>

@@ -7,8 +7,8 @@ use Rattle.serde_json.specs.Written.{compact_text}
 use Rattle.std.specs.Fmt.{signed_decimal}
 use Rattle.rpc_lines.specs.declared.request.Id.{Id}
 use Rattle.rpc_lines.specs.declared.request.Id.TheVariants.{Null, Unsigned, Signed, Text}
-use Rattle.rpc_lines.specs.Reply.{id_data, with_result, with_error, reply_line}
-use Rattle.rpc_lines.specs.Tokens.{id_token, result_head, error_head, error_tail}
+use Rattle.rpc_lines.specs.Reply.{id_data, with_result, with_error, place_data, reply_line}
+use Rattle.rpc_lines.specs.Tokens.{id_token, result_head, place_tokens, error_head, error_tail}
 
 signed_text : (z : ℤ) → compact_text (number (of_integer z)) ≡ signed_decimal z
 signed_text (pos n) = refl
@@ -39,6 +39,13 @@ pub result_text : (id : Id) (value : Data) → (print (result_head id) ++ compac
 unfolding reply_line escape_byte
 result_text id value =
     rw (result_head_text id) (result_parts (codes "{\"id\":") (compact_text (id_data id)) (codes ",\"jsonrpc\":\"2.0\",\"result\":") (compact_text value) (125 ∷ []) (10 ∷ []))
+
+place_value : (at : ℕ) → print (place_tokens at) ≡ compact_text (place_data at)
+unfolding print_from escape_byte
+place_value at = refl
+
+pub place_text : (id : Id) (at : ℕ) → (print (result_head id) ++ print (place_tokens at)) ++ 125 ∷ 10 ∷ [] ≡ reply_line (id_data id) (with_result (place_data at))
+place_text id at = rw (place_value at) (result_text id (place_data at))
 
 error_parts : (a c b v k l m g h t e f : List ℕ) → ((((a ++ (c ++ b)) ++ v) ++ k) ++ (l ++ (m ++ ((g ++ h) ++ (t ++ e))))) ++ f
     ≡ a ++ (((c ++ (b ++ (v ++ (k ++ (l ++ (m ++ g)))))) ++ (h ++ (t ++ e))) ++ f)

@@ -21,9 +21,14 @@ pub data Content : Type 0 where
   with_result : Data → Content
   with_error : ℤ → List ℕ → Data → Content
 
+-- a result that tells the place of an entry alone
+abbrev pub place_data : ℕ → Data
+place_data at = object (member (codes "at") (number (unsigned at)) no_members)
+
 -- the content of a body
 abbrev pub content_of : Body → Content
 content_of (body.Result value) = with_result (view value)
+content_of (body.Place at) = with_result (place_data at)
 content_of (body.Error code message detail) = with_error code message (view detail)
 
 -- the value that was handed in: the result, or the data of the error

@@ -15,6 +15,10 @@ id_token (Text text) = string text
 abbrev pub result_head : Id → List Token
 result_head id = begin_object ∷ key (codes "id") ∷ id_token id ∷ key (codes "jsonrpc") ∷ string (codes "2.0") ∷ key (codes "result") ∷ []
 
+-- a result that tells a place
+abbrev pub place_tokens : ℕ → List Token
+place_tokens at = begin_object ∷ key (codes "at") ∷ number (decimal at) ∷ end_object ∷ []
+
 -- before an error's data
 abbrev pub error_head : ℤ → List Token
 error_head code = begin_object ∷ key (codes "error") ∷ begin_object ∷ key (codes "code") ∷ number (signed_decimal code) ∷ key (codes "data") ∷ []

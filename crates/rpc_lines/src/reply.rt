@@ -1,8 +1,8 @@
 ghost use Rattle.std.specs.Prelude.{◌≡◌, ◌++◌, IfOk, false};
 ghost use Rattle.serde_json.specs.View.{view};
 ghost use Rattle.serde_json.specs.Written.{has_float};
-ghost use Rattle.rpc_lines.specs.Reply.{id_data, with_result, with_error, content_of, value_in, reply_line};
-ghost use Rattle.rpc_lines.specs.Tokens.{id_token, result_head, error_head, error_tail};
+ghost use Rattle.rpc_lines.specs.Reply.{id_data, with_result, with_error, content_of, value_in, place_data, reply_line};
+ghost use Rattle.rpc_lines.specs.Tokens.{id_token, result_head, place_tokens, error_head, error_tail};
 ghost use Rattle.json.specs.Print.{print};
 ghost use Rattle.json.specs.Written.{Writes};
 
@@ -20,6 +20,10 @@ const ROOM: usize = 256;
 pub enum Body {
     /// It was done, with this result.
     Result(Value),
+    /// It was done, and the result tells the place of its entry alone, under the key `at`.
+    Place {
+        at: u64,
+    },
     /// It was refused. `detail` is printed under the key `data`.
     Error {
         code: i32,
@@ -60,6 +64,7 @@ pub fn write_reply(alloc: Global, reply: &Reply) -> Result<Vec<u8>, NoMemory>
 {
     let line = match &reply.body {
         Body::Result(value) => result_line(alloc, &reply.id, value)?,
+        Body::Place { at } => place_line(alloc, &reply.id, *at)?,
         Body::Error {
             code,
             message,
@@ -78,6 +83,17 @@ fn result_line(alloc: Global, id: &Id, value: &Value) -> Result<Vec<u8>, AllocEr
     let result = value.to_vec(alloc)?;
     let mut line = result_start(alloc, id)?;
     line.extend_from_slice(&result)?;
+    line.extend_from_slice(b"}\n")?;
+    Ok(line)
+}
+
+#[tactic(auto, using(crate::proofs::Lines::place_text))]
+fn place_line(alloc: Global, id: &Id, at: u64) -> Result<Vec<u8>, AllocError>
+    ensures { IfOk result
+        (λ line. line.items ≡ reply_line (id_data id.now) (with_result (place_data at))) }
+{
+    let line = result_start(alloc, id)?;
+    let mut line = write_place(line, at)?;
     line.extend_from_slice(b"}\n")?;
     Ok(line)
 }
@@ -114,6 +130,17 @@ fn result_start(alloc: Global, id: &Id) -> Result<Vec<u8>, AllocError>
     out.key("jsonrpc")?;
     out.string("2.0")?;
     out.key("result")?;
+    Ok(out.into_inner())
+}
+
+fn write_place(line: Vec<u8>, at: u64) -> Result<Vec<u8>, AllocError>
+    ensures { IfOk result (λ whole. whole.items ≡ line.items ++ print (place_tokens at)) }
+{
+    let mut out = Writer::new(line);
+    out.begin_object()?;
+    out.key("at")?;
+    out.u64(at)?;
+    out.end_object()?;
     Ok(out.into_inner())
 }
 

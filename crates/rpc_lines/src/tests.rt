@@ -133,6 +133,16 @@ fn replies_have_these_bytes(rt: HostRuntime) -> Result<(), Fail> {
         line.as_slice() == "{\"id\":1,\"jsonrpc\":\"2.0\",\"result\":{\"at\":0}}\n".as_bytes()
     );
 
+    let reply = Reply {
+        id: Id::Null,
+        body: Body::Place { at: 4_194_303 },
+    };
+    let line = write_reply(alloc, &reply)?;
+    assert!(rt;
+        line.as_slice()
+            == "{\"id\":null,\"jsonrpc\":\"2.0\",\"result\":{\"at\":4194303}}\n".as_bytes()
+    );
+
     let detail = json!(in alloc; {"layer": "x", "at": 1})?;
     let reply = Reply {
         id: Id::Unsigned(2),
