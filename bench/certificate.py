@@ -7,7 +7,7 @@ certificate.py --write FILE [ARCS [NODES]]      writes the certificate alone
 The certificate is of a cheapest flow, without a solver: nodes get potentials that ascend from the source to the
 destination, parts of the demand go along ascending paths, and the cost of each arc is chosen so that the potentials show
 the flow: equal to the difference where some room is left, at most that where the arc is full, at least that where it is
-not used. The program is crates/askrened/out/askrened, which `./askrened` builds.
+not used. The program is the one that `./askrened` runs.
 """
 import os
 import random
@@ -17,7 +17,7 @@ import tempfile
 import time
 
 TOP = os.path.dirname(os.path.dirname(os.path.abspath(__file__)))
-PROGRAM = os.path.join(TOP, "crates", "askrened", "out", "askrened")
+PROGRAM = subprocess.run([os.path.join(TOP, "scripts", "program")], stdout=subprocess.PIPE, text=True, check=True).stdout.strip()
 
 
 def make(arcs, nodes):

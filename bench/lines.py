@@ -8,7 +8,7 @@ lines.py unreserve [COUNT]  the one request that sets 1,000 reservations free wh
                            of those that are left, which takes longest; both runs, with it and without it, are timed
 lines.py layers [COUNT]    COUNT lines (1,000,000) that create and remove layers in turn
 
-The program is crates/askrened/out/askrened, which `./askrened` builds. Each run is made five times, the middle one is told.
+The program is the one that `./askrened` runs. Each run is made five times, the middle one is told.
 """
 import json
 import os
@@ -20,7 +20,7 @@ import tempfile
 import time
 
 TOP = os.path.dirname(os.path.dirname(os.path.abspath(__file__)))
-PROGRAM = os.path.join(TOP, "crates", "askrened", "out", "askrened")
+PROGRAM = subprocess.run([os.path.join(TOP, "scripts", "program")], stdout=subprocess.PIPE, text=True, check=True).stdout.strip()
 
 
 def cheap(count):

@@ -1,6 +1,6 @@
--- Which commands are good: those that a request can be read as. Ids of nodes, directions and the fields of fees and
--- delays keep their ranges by their types.
-use Rattle.std.specs.Prelude.{◌≡◌, ◌≤◌, ℕ, List, length, All, true, IfSome}
+-- Which commands are good. These are the commands that a request can be read as. Ids of nodes, directions, fees and delays
+-- have their ranges by their types.
+use Rattle.std.specs.Prelude.{◌≡◌, ◌≤◌, ◌==◌, ℕ, List, length, Bool, All, true, false, IfSome}
 use Rattle.plan_base.specs.declared.held.Held.{Held}
 use Rattle.plan_base.specs.Held.{IsGoodHeld}
 use Rattle.plan_base.specs.declared.amount.TheConstants.{MAX}
@@ -13,21 +13,21 @@ use Rattle.askrene_command.specs.declared.command.Inform.TheVariants.{Constraine
 use Rattle.askrene_command.specs.declared.command.Command.{Command}
 use Rattle.askrene_command.specs.declared.command.Command.TheVariants.{CreateLayer, RemoveLayer, ListLayers, UpdateChannel, InformChannel, BiasChannel, DisableNode, Age, Reserve, Unreserve, ListReservations}
 
--- a layer's name
+-- the name of a layer
 abbrev pub IsGoodName : List ℕ → Type 0
 IsGoodName layer = is_good_name layer ≡ true
 
--- the least amount of an inform: that 0 msat could not pass says nothing that can be
-abbrev pub least_of : Inform → ℕ
-least_of Constrained = 1
-least_of Unconstrained = 0
-least_of Succeeded = 0
+-- a payment of 0 msat cannot fail for lack of liquidity
+abbrev pub is_impossible : Inform → ℕ → Bool
+is_impossible Constrained amount = amount == 0
+is_impossible Unconstrained amount = false
+is_impossible Succeeded amount = false
 
 pub record IsGoodInform (amount : ℕ) (kind : Inform) : Type 0 where
-  pub least : least_of kind ≤ amount
+  pub possible : is_impossible kind amount ≡ false
   pub most : amount ≤ MAX
 
--- some items, not too many, each of an amount
+-- 1 to PATH_MAX items, each with a valid amount
 pub record IsGoodPath (path : List Held) : Type 0 where
   pub some : 1 ≤ length path
   pub few : length path ≤ PATH_MAX

@@ -1,70 +1,85 @@
+ghost use Rattle.std.specs.Prelude.{◌≡◌};
+ghost use Rattle.askrene_command.specs.Command as spec;
+
 use layer::{Bias, Name, Update};
 use plan_base::{Dir, Held, Items, NodeId};
 
-/// The greatest number of items that are reserved, or set free, at once.
+/// The most items that one command reserves or unreserves.
 pub const PATH_MAX: usize = 1_000;
 
-/// What a payment has shown of a direction's liquidity.
+/// What a payment showed about the liquidity of a direction.
 #[derive(Clone, Copy, Debug, PartialEq, Eq)]
 pub enum Inform {
-    /// The amount could not pass: there is less liquidity.
+    /// The amount did not pass: the liquidity is less.
     Constrained,
-    /// The amount passed on: there is at least so much liquidity.
+    /// The amount passed: the liquidity is at least the amount.
     Unconstrained,
-    /// The payment succeeded. Nothing is learnt of what is left.
+    /// The payment succeeded. It shows nothing about the liquidity that remains.
     Succeeded,
 }
 
-/// What a caller asks of the state.
+impl Inform {
+    /// An amount of 0 msat always passes, so `Constrained` with 0 is refused.
+    pub fn is_impossible(self, amount: u64) -> bool
+        ensures { result ≡ spec.is_impossible self amount }
+    {
+        match self {
+            Inform::Constrained => amount == 0,
+            Inform::Unconstrained | Inform::Succeeded => false,
+        }
+    }
+}
+
+/// A command to the state.
 #[derive(Debug, Drop)]
 pub enum Command {
-    /// A new, empty layer with this name.
+    /// Creates an empty layer with this name.
     CreateLayer {
         layer: Name,
     },
-    /// The layer goes, with all that it holds.
+    /// Removes the layer and its contents.
     RemoveLayer {
         layer: Name,
     },
-    /// All layers, or the one with this name.
+    /// Lists all layers, or the layer with this name.
     ListLayers {
         layer: Option<Name>,
     },
-    /// Fields of a direction, in place of what else is known of them.
+    /// Overrides fields of a direction.
     UpdateChannel {
         layer: Name,
         change: Update,
     },
-    /// What was learnt of a direction, by an amount in msat.
+    /// Records what a payment of an amount in msat showed about a direction.
     InformChannel {
         layer: Name,
         dir: Dir,
         amount: u64,
         kind: Inform,
     },
-    /// How much a direction is favoured.
+    /// Sets the bias of a direction.
     BiasChannel {
         layer: Name,
         bias: Bias,
     },
-    /// A node over which no part may go.
+    /// Disables a node: no part of a payment may pass it.
     DisableNode {
         layer: Name,
         node: NodeId,
     },
-    /// What was learnt before a moment, in seconds, is forgotten.
+    /// Removes the constraints recorded before a moment, in Unix seconds.
     Age {
         layer: Name,
         cutoff: u64,
     },
-    /// The amounts are set aside, all or none.
+    /// Reserves all items, or none.
     Reserve {
         path: Items<Held>,
     },
-    /// Each amount is free again: the earliest reservation of its direction and amount goes, for all items or none.
+    /// Removes, for each item, the earliest matching reservation that no earlier item has taken; for all items, or none.
     Unreserve {
         path: Items<Held>,
     },
-    /// All reservations.
+    /// Lists all reservations.
     ListReservations,
 }

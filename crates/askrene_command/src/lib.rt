@@ -1,4 +1,4 @@
-//! What callers ask of the state and what they are told: commands, refusals and replies, with what makes a command good.
+//! The commands that change or read the state, and the replies and refusals that they get.
 #![tactic(auto)]
 
 mod command;

@@ -8,35 +8,35 @@ pub struct Listed {
     pub layer: Layer,
 }
 
-/// What the state refuses. A refused command changes nothing.
+/// Why the state refuses a command. A refused command changes nothing.
 #[derive(Debug, Drop)]
 pub enum Refusal {
-    /// The layer is there already.
+    /// A layer with this name exists.
     LayerExists { layer: Name },
-    /// There is no layer with this name.
+    /// No layer with this name exists.
     LayerUnknown { layer: Name },
-    /// There are as many layers as may be, which is this count.
+    /// The maximum number of layers, `count`, is reached.
     LayersFull { count: usize },
-    /// The layer has as many entries as it may have.
+    /// The maximum number of entries of this layer is reached.
     LayerFull { layer: Name },
-    /// The item of this index finds no reservation that no earlier item took.
+    /// The item at this index matches no reservation that is left by the earlier items.
     NotReserved { index: usize },
-    /// There would be more reservations than there may be; so many stand.
+    /// The limit would be exceeded; `length` reservations are held.
     ReservationsFull { length: usize },
 }
 
-/// What the caller of a command is told.
+/// The reply to a command.
 #[derive(Debug, Drop)]
 pub enum EventReply {
-    /// The command was done.
+    /// The command was carried out.
     Done,
-    /// So many constraints were removed.
+    /// The command removed `count` constraints.
     Removed { count: u32 },
-    /// The constraint that was learnt, if any.
+    /// The constraint that was recorded, if any.
     Informed { constraint: Option<Constraint> },
-    /// The layers that were asked for, in order of creation.
+    /// The listed layers, in order of creation.
     Layers(Items<Listed>),
-    /// All reservations in order of making, at a moment in seconds.
+    /// All reservations, oldest first, listed at `now` in Unix seconds.
     Reservations { now: u64, list: Items<Reservation> },
     /// The command was refused.
     Refused(Refusal),

@@ -1,5 +1,5 @@
-pub mod Edit
 pub mod Layers
 pub mod LayerSteps
 pub mod ReservationSteps
 pub mod Step
+pub mod Replies

@@ -1,8 +1,9 @@
-//! The state of the service: its layers of knowledge, by name, in order of creation, and its reservations, in order of
-//! making. One command changes it by one step, which `specs/Step.antt` defines; a refused command changes nothing.
+//! The state of the service: its layers of knowledge, by name, and its reservations.
+//! Each command is one step of the state, which `specs/Step.antt` defines. A refused command changes nothing.
 #![tactic(auto)]
 
-mod edit;
+mod change;
+mod law;
 mod layers;
 mod listing;
 mod reserving;
@@ -11,5 +12,6 @@ mod state;
 mod tests;
 
 pub use askrene_command::{Command, EventReply, Inform, Listed, Refusal};
+pub use law::refused_commands_change_nothing;
 pub use layers::LAYERS_MAX;
 pub use state::State;

@@ -1,14 +1,14 @@
 ghost use Rattle.std.specs.Prelude.{◌≡◌, All, IfOk, OnErr};
 ghost use Rattle.plan_base.specs.Held.{IsGoodHeld};
 ghost use Rattle.askrene_command.specs.declared.reply.EventReply.TheVariants.{Reservations as listing};
-ghost use Rattle.askrene_state.specs.ReservationSteps.{reserve_in, unreserve_in};
+ghost use Rattle.askrene_state.specs.ReservationSteps.{reserve_step, unreserve_step};
 
 use askrene_command::{EventReply, Refusal};
 use plan_base::{Held, Items, NoMemory};
 use reservations::{NotReserved, Reservations, ReserveRefusal};
 use std::alloc::Global;
 
-/// Reserves all items for a caller at a moment in seconds, or none.
+/// Reserves all items for a caller at a time in Unix seconds, or none.
 pub fn reserve(
     reservations: &mut Reservations,
     caller: u32,
@@ -16,7 +16,7 @@ pub fn reserve(
     path: &[Held],
 ) -> Result<EventReply, NoMemory>
     requires { All IsGoodHeld path.now }
-    ensures step { IfOk result (λ reply. (reservations.new, reply) ≡ reserve_in reservations.old caller moment path.now) }
+    ensures step { IfOk result (λ reply. (reservations.new, reply) ≡ reserve_step reservations.old caller moment path.now) }
     ensures err { OnErr result (reservations.new ≡ reservations.old) }
 {
     match reservations.reserve(path, moment, caller) {
@@ -28,9 +28,9 @@ pub fn reserve(
     }
 }
 
-/// Sets all items free, or none. No memory is taken.
+/// Sets all items free, or none. Allocates nothing.
 pub fn unreserve(reservations: &mut Reservations, path: &[Held]) -> EventReply
-    ensures { (reservations.new, result) ≡ unreserve_in reservations.old path.now }
+    ensures { (reservations.new, result) ≡ unreserve_step reservations.old path.now }
 {
     match reservations.unreserve(path) {
         Ok(()) => EventReply::Done,
@@ -38,7 +38,7 @@ pub fn unreserve(reservations: &mut Reservations, path: &[Held]) -> EventReply
     }
 }
 
-/// A copy of all reservations, for the moment of the call.
+/// A copy of all reservations, with the time of the call.
 pub fn list(alloc: Global, reservations: &Reservations, moment: u64) -> Result<EventReply, NoMemory>
     ensures { IfOk result (λ reply. reply ≡ listing moment reservations.now) }
 {

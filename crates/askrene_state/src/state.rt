@@ -6,8 +6,8 @@ ghost use Rattle.askrene_state.specs.Layers.{layer_in};
 ghost use Rattle.askrene_state.specs.Step.{Service, no_service, next_of, reply_of};
 ghost use Rattle.askrene_state.specs.declared.layers.TheConstants.{LAYERS_MAX};
 
-use crate::edit::Edit;
-use crate::layers::{Layers, learnt};
+use crate::change::{Disable, Forget, Learn};
+use crate::layers::{Layers, constraint_learned};
 use crate::reserving;
 use askrene_command::{Command, EventReply};
 use layer::{Layer, Name};
@@ -17,7 +17,8 @@ use reservations::Reservations;
 use std::alloc::Global;
 use std::marker::Model;
 
-/// The layers, by name, in order of creation, and the reservations, in order of making. Contracts see both lists.
+/// The layers, by name, in order of creation, and the reservations, in the order in which they were made. Contracts see both
+/// lists.
 #[derive(Drop)]
 pub struct State {
     layers: Layers,
@@ -40,15 +41,16 @@ impl State {
         self.layers.layer(name)
     }
 
-    /// How many layers there are.
+    /// The number of layers.
     pub fn layers(&self) -> usize
         ensures count { result ≡ length self.now.layers }
         ensures few { length self.now.layers ≤ LAYERS_MAX }
+        ensures limit { LAYERS_MAX ≡ 1024 }
     {
         self.layers.count()
     }
 
-    /// All reservations, in order of making.
+    /// All reservations, in the order in which they were made.
     pub fn held(&self) -> &[Reservation]
         ensures list { result.now ≡ self.now.reservations }
         ensures good { IsGoodList self.now.reservations }
@@ -88,28 +90,24 @@ impl Object for State {
             Command::CreateLayer { layer } => self.layers.create(alloc, layer),
             Command::RemoveLayer { layer } => self.layers.remove(alloc, layer),
             Command::ListLayers { layer } => self.layers.list(alloc, layer),
-            Command::UpdateChannel { layer, change } => {
-                let edit = Edit::Update(*change);
-                self.layers.change(alloc, layer, edit, EventReply::Done)
-            }
+            Command::UpdateChannel { layer, change } => self.layers.change(alloc, layer, change),
             Command::InformChannel {
                 layer,
                 dir,
                 amount,
                 kind,
             } => {
-                let learnt = learnt(*dir, *amount, moment, *kind);
-                self.layers.learn(alloc, layer, learnt)
+                let constraint = constraint_learned(*dir, *amount, moment, *kind);
+                self.layers.change(alloc, layer, &Learn { constraint })
             }
-            Command::BiasChannel { layer, bias } => {
-                let edit = Edit::Bias(*bias);
-                self.layers.change(alloc, layer, edit, EventReply::Done)
-            }
+            Command::BiasChannel { layer, bias } => self.layers.change(alloc, layer, bias),
             Command::DisableNode { layer, node } => {
-                let edit = Edit::Disable(*node);
-                self.layers.change(alloc, layer, edit, EventReply::Done)
+                self.layers.change(alloc, layer, &Disable { node: *node })
             }
-            Command::Age { layer, cutoff } => self.layers.age(alloc, layer, *cutoff),
+            Command::Age { layer, cutoff } => {
+                self.layers
+                    .change(alloc, layer, &Forget { cutoff: *cutoff })
+            }
             Command::Reserve { path } => {
                 reserving::reserve(&mut self.reservations, caller, moment, path.as_slice())
             }

@@ -1,7 +1,7 @@
 ghost use Rattle.std.specs.Prelude.{◌≡◌, IfSome};
 ghost use Rattle.askrene_command.specs.Command.{IsGoodCommand, IsGoodPath};
 
-use crate::{Command, EventReply, Refusal, State};
+use crate::{Command, EventReply, Inform, Refusal, State};
 use layer::Name;
 use one_history::Object;
 use plan_base::{Dir, Held, Items, Reservation};
@@ -34,7 +34,7 @@ fn twice(alloc: Global) -> Option<Items<Held>>
     Some(path)
 }
 
-// Whether just the reservation stands that caller 3 made at moment 100.
+// Whether the only reservation is the one of caller 3 at moment 100.
 fn is_made_alone(list: &[Reservation]) -> bool {
     match list {
         [one] => one.amount == 5 && one.caller == 3 && one.moment == 100,
@@ -99,8 +99,51 @@ fn created_once(alloc: Global) -> Option<bool> {
     )
 }
 
+fn inform(alloc: Global) -> Option<Command>
+    ensures { IfSome result IsGoodCommand }
+{
+    let layer = Name::read(alloc, "x").ok()?;
+    let dir = Dir::read("100x1x0/0").ok()?;
+    Some(Command::InformChannel {
+        layer,
+        dir,
+        amount: 5,
+        kind: Inform::Unconstrained,
+    })
+}
+
+// A state whose layer x has taken 65,536 reports.
+fn filled(alloc: Global, inform: &Command) -> Option<State>
+    requires { IsGoodCommand inform.now }
+{
+    let mut state = State::fresh(alloc).ok()?;
+    let create = create(alloc)?;
+    state.step(alloc, 0, 1, &create).ok()?;
+    for moment in 0..65_536 {
+        let done = state.step(alloc, 0, moment, inform).ok()?;
+        if !matches!(&done, EventReply::Informed { .. }) {
+            return None;
+        }
+    }
+    Some(state)
+}
+
+fn refused_when_full(alloc: Global) -> Option<bool> {
+    let inform = inform(alloc)?;
+    let mut state = filled(alloc, &inform)?;
+    let refused = state.step(alloc, 0, 1, &inform).ok()?;
+    let name = Name::read(alloc, "x").ok()?;
+    Some(
+        matches!(&refused, EventReply::Refused(Refusal::LayerFull { .. }))
+            && state
+                .layer(&name)
+                .is_some_and(|layer| layer.entries() == 65_536),
+    )
+}
+
 #[test]
 fn steps(rt: HostRuntime) {
     assert!(rt; reserved_and_kept(rt.alloc()) == Some(true));
     assert!(rt; created_once(rt.alloc()) == Some(true));
+    assert!(rt; refused_when_full(rt.alloc()) == Some(true));
 }

@@ -1,3 +1,1 @@
-pub mod Going
-pub mod Walks
-mod Entered
+pub mod Ends

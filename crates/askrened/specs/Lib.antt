@@ -1,5 +1,2 @@
-pub mod Asked
-pub mod Line
 pub mod Run
-pub mod Session
 pub mod Status

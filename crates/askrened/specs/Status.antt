@@ -1,5 +1,9 @@
--- The exit status of each way to end.
+-- The exit status of each way in which the program ends.
 use Rattle.std.specs.Prelude.{ℕ}
+use Rattle.port_io.specs.declared.session_end.SessionEnd.{SessionEnd}
+use Rattle.port_io.specs.declared.session_end.SessionEnd.TheVariants as Session
+use Rattle.check_command.specs.declared.end.CheckEnd.{CheckEnd}
+use Rattle.check_command.specs.declared.end.CheckEnd.TheVariants as Check
 use Rattle.askrened.specs.declared.status.Status.{Status}
 use Rattle.askrened.specs.declared.status.Status.TheVariants.{Ok, Usage, ReadFault, WriteFault, NoMemory, CheckNo, SessionFull, Long}
 
@@ -9,6 +13,24 @@ code_of Usage = 2
 code_of ReadFault = 4
 code_of WriteFault = 5
 code_of NoMemory = 6
-code_of CheckNo = 7
+code_of (CheckNo line readable) = 7
 code_of SessionFull = 8
 code_of Long = 9
+
+-- the status of a session's end
+abbrev pub session_status : SessionEnd → Status
+session_status Session.Done = Ok
+session_status Session.ReadFault = ReadFault
+session_status Session.WriteFault = WriteFault
+session_status Session.NoMemory = NoMemory
+session_status Session.Full = SessionFull
+session_status Session.Long = Long
+
+-- the status of a check's end
+abbrev pub check_status : CheckEnd → Status
+check_status Check.Shown = Ok
+check_status (Check.NotShown line readable) = CheckNo line readable
+check_status Check.Long = Long
+check_status Check.ReadFault = ReadFault
+check_status Check.WriteFault = WriteFault
+check_status Check.NoMemory = NoMemory

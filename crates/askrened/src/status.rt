@@ -3,11 +3,12 @@ ghost use Rattle.askrened.specs.Status.{code_of};
 
 use check_command::CheckEnd;
 use port_io::SessionEnd;
+use std::alloc::AllocError;
 
 /// How the program ended. Its code is the exit status.
 #[derive(Clone, Copy, Debug, PartialEq, Eq)]
 pub enum Status {
-    /// All was read and answered.
+    /// All input was read and answered.
     Ok,
     /// The words of the command line are no command.
     Usage,
@@ -15,13 +16,13 @@ pub enum Status {
     ReadFault,
     /// A write of the output failed.
     WriteFault,
-    /// There was no memory.
+    /// Out of memory.
     NoMemory,
-    /// A check found that the input doesn't show what it claims, or that it is no certificate.
-    CheckNo,
-    /// There was a line behind the most lines of a session.
+    /// The line written is `no LINE` if the input is readable, and else `unreadable LINE`.
+    CheckNo { line: u64, readable: bool },
+    /// The input has more than the greatest number of lines of a session.
     SessionFull,
-    /// A line, or the whole input of a check, was too long.
+    /// A line, or the whole input of a check, is too long.
     Long,
 }
 
@@ -36,18 +37,29 @@ impl Status {
             Status::ReadFault => 4,
             Status::WriteFault => 5,
             Status::NoMemory => 6,
-            Status::CheckNo => 7,
+            Status::CheckNo { .. } => 7,
             Status::SessionFull => 8,
             Status::Long => 9,
         }
     }
 }
 
+impl From<AllocError> for Status {
+    ghost use Rattle.std.specs.Prelude.{◌≡◌};
+    ghost use Rattle.askrened.specs.declared.status.Status.TheVariants.{NoMemory};
+
+    ghost from_gives = { λ _ status. status ≡ NoMemory };
+
+    fn from(_: AllocError) -> Status {
+        Status::NoMemory
+    }
+}
+
 impl From<SessionEnd> for Status {
     ghost use Rattle.std.specs.Prelude.{◌≡◌};
-    ghost use Rattle.askrened.specs.Run.{status_of};
+    ghost use Rattle.askrened.specs.Status.{session_status};
 
-    ghost from_gives = { λ end status. status ≡ status_of end };
+    ghost from_gives = { λ end status. status ≡ session_status end };
 
     fn from(end: SessionEnd) -> Status {
         match end {
@@ -63,14 +75,14 @@ impl From<SessionEnd> for Status {
 
 impl From<CheckEnd> for Status {
     ghost use Rattle.std.specs.Prelude.{◌≡◌};
-    ghost use Rattle.askrened.specs.Run.{status_of_check};
+    ghost use Rattle.askrened.specs.Status.{check_status};
 
-    ghost from_gives = { λ end status. status ≡ status_of_check end };
+    ghost from_gives = { λ end status. status ≡ check_status end };
 
     fn from(end: CheckEnd) -> Status {
         match end {
             CheckEnd::Shown => Status::Ok,
-            CheckEnd::NotShown => Status::CheckNo,
+            CheckEnd::NotShown { line, readable } => Status::CheckNo { line, readable },
             CheckEnd::Long => Status::Long,
             CheckEnd::ReadFault => Status::ReadFault,
             CheckEnd::WriteFault => Status::WriteFault,

@@ -101,10 +101,19 @@ fn lines_get_their_replies(rt: HostRuntime) -> Result<(), Fail> {
     Ok(())
 }
 
-/// Room for 5 units where 6 are asked for.
+/// Room for 5 units if 6 are demanded.
 const CUT: &str = "askrene-certificate 1
 cut 2 1 0 1 6
 arc 0 1 5 1
+side 1
+side 0
+end
+";
+
+/// Room for 6 units if 6 are demanded.
+const NO_CUT: &str = "askrene-certificate 1
+cut 2 1 0 1 6
+arc 0 1 6 1
 side 1
 side 0
 end
@@ -126,10 +135,19 @@ fn is_checked(
 fn certificates_are_checked(rt: HostRuntime) -> Result<(), Fail> {
     let alloc = rt.alloc();
     assert!(rt; is_checked(alloc, CUT, &[], &[], Status::Ok, "no-flow\n")?);
-    assert!(rt; is_checked(alloc, "?", &[], &[], Status::CheckNo, "unreadable 1\n")?);
+    let unreadable = Status::CheckNo {
+        line: 1,
+        readable: false,
+    };
+    assert!(rt; is_checked(alloc, "?", &[], &[], unreadable, "unreadable 1\n")?);
+    let no = Status::CheckNo {
+        line: 2,
+        readable: true,
+    };
+    assert!(rt; is_checked(alloc, NO_CUT, &[], &[], no, "no 2\n")?);
     assert!(rt; is_checked(alloc, CUT, &[1], &[], Status::ReadFault, "")?);
     assert!(rt; is_checked(alloc, CUT, &[], &[0], Status::WriteFault, "")?);
-    assert_eq!(rt; Status::CheckNo.code(), 7);
+    assert_eq!(rt; no.code(), 7);
     Ok(())
 }
 

@@ -1,4 +1,4 @@
--- The lines behind the second one: those of the arcs, of the nodes, and the last.
+-- The lines after the second one: those of the arcs, of the nodes, and the last.
 use Rattle.std.proofs.Common.{ℕ, ◌+◌, ◌-◌, ◌≤◌, ◌≡◌, List, ◌++◌, length, map, take, replicate, Option, Some, Result, Ok, Err, refl, sym, ap, ◌∙◌, subst, arith, append_assoc, inl, inr}
 use Rattle.std.specs.Prelude.{All}
 use Rattle.std.specs.List.{concat}
@@ -10,8 +10,8 @@ use Rattle.std.proofs.lemmas.List.Elements.{All-append, All-replicate, All-take}
 use lib.ListN.{length-append}
 use Rattle.certificate.specs.declared.cert.CertArc.{CertArc}
 use Rattle.certificate.specs.declared.problem.Problem.{Problem}
-use Rattle.certificate.specs.declared.problem.Kind.{Kind}
-use Rattle.certificate.specs.declared.problem.Kind.TheVariants as Kinds
+use Rattle.certificate.specs.declared.problem.CertificateKind.{CertificateKind}
+use Rattle.certificate.specs.declared.problem.CertificateKind.TheVariants as Kinds
 use Rattle.certificate.specs.Reading.{read_lines, read_nodes, read_arc, then_read}
 use Rattle.certificate.specs.Cert.{IsGoodProblem}
 use Rattle.certificate.proofs.Outcomes.{ok-err, same_Ok, then_ok, then_err}
@@ -22,12 +22,12 @@ use Rattle.certificate.proofs.Nodes.{node_rest, length-node_rest, nodes_sound, n
 filler_arc : CertArc
 filler_arc = record { from = 0; to = 1; room = 1; cost = 1; units = 0 }
 
-no_load : (kind : Kind) → IsLoad kind filler_arc
+no_load : (kind : CertificateKind) → IsLoad kind filler_arc
 unfolding filler_arc
 no_load Kinds.Flow = omega arith
 no_load Kinds.Cut = refl
 
-filler_fits : (kind : Kind) (p : Problem) → IsGoodProblem p → IsGoodLine kind p.nodes filler_arc
+filler_fits : (kind : CertificateKind) (p : Problem) → IsGoodProblem p → IsGoodLine kind p.nodes filler_arc
 unfolding filler_arc
 filler_fits kind p good = record {
   from_in = omega arith;
@@ -36,20 +36,20 @@ filler_fits kind p good = record {
   load = no_load kind;
 }
 
-abbrev pub body_lines : {B : Type 0} → Kind → (B → List ℕ) → List CertArc → List B → List (List ℕ)
+abbrev pub body_lines : {B : Type 0} → CertificateKind → (B → List ℕ) → List CertArc → List B → List (List ℕ)
 body_lines kind line arcs bs = map (load_line kind) arcs ++ node_rest line bs
 
 -- as many arcs and items of nodes as the second line says, each within the grammar
-pub record IsBody {B : Type 0} (kind : Kind) (Good : B → Type 0) (p : Problem) (arcs : List CertArc) (bs : List B) : Type 0 where
+pub record IsBody {B : Type 0} (kind : CertificateKind) (Good : B → Type 0) (p : Problem) (arcs : List CertArc) (bs : List B) : Type 0 where
   pub arcs_long : length arcs ≡ p.arcs
   pub arcs_good : All (IsGoodLine kind p.nodes) arcs
   pub nodes_long : length bs ≡ p.nodes
   pub nodes_good : All Good bs
 
-abbrev pub read_parts : {B : Type 0} → Kind → (List ℕ → Option (B × List ℕ)) → Problem → List ℕ → Result (List CertArc × List B) ℕ
+abbrev pub read_parts : {B : Type 0} → CertificateKind → (List ℕ → Option (B × List ℕ)) → Problem → List ℕ → Result (List CertArc × List B) ℕ
 read_parts kind read p text = then_read (λ r. then_read (λ bs. Ok (r.0, bs)) (read_nodes read p.nodes (3 + p.arcs) r.1)) (read_lines (read_arc kind p.nodes) p.arcs 3 text)
 
-module _ {B : Type 0} (read : List ℕ → Option (B × List ℕ)) (line : B → List ℕ) (Good : B → Type 0) (sound : (text rest : List ℕ) (x : B) → read text ≡ Some (x, rest) → Good x × (text ≡ line x ++ rest)) (complete : (x : B) (rest : List ℕ) → Good x → read (line x ++ rest) ≡ Some (x, rest)) (filler : B) (filler_good : Good filler) (kind : Kind) where
+module _ {B : Type 0} (read : List ℕ → Option (B × List ℕ)) (line : B → List ℕ) (Good : B → Type 0) (sound : (text rest : List ℕ) (x : B) → read text ≡ Some (x, rest) → Good x × (text ≡ line x ++ rest)) (complete : (x : B) (rest : List ℕ) → Good x → read (line x ++ rest) ≡ Some (x, rest)) (filler : B) (filler_good : Good filler) (kind : CertificateKind) where
   module _ (p : Problem) (good : IsGoodProblem p) where
     arc_sound : (text rest : List ℕ) (a : CertArc) → read_arc kind p.nodes text ≡ Some (a, rest) → IsGoodLine kind p.nodes a × (text ≡ load_line kind a ++ rest)
     arc_sound = read_arc_sound kind p.nodes
@@ -89,7 +89,7 @@ module _ {B : Type 0} (read : List ℕ → Option (B × List ℕ)) (line : B →
     pub length-body_lines : (arcs : List CertArc) (bs : List B) → length (body_lines kind line arcs bs) ≡ length arcs + length bs + 1
     length-body_lines arcs bs = omega (arith, length-append (map (load_line kind) arcs) (node_rest line bs), length-map arcs (load_line kind), length-node_rest read line Good sound complete filler filler_good bs)
 
-    -- a failure comes behind some first lines of a body
+    -- a failure comes after some first lines of a body
     pub body_failed : (text : List ℕ) (m : ℕ) → read_parts kind read p text ≡ Err m → (arcs : List CertArc) × (bs : List B) × (k : ℕ) × (after : List ℕ) × IsBody kind Good p arcs bs × (k ≤ length (body_lines kind line arcs bs)) × (text ≡ concat (take k (body_lines kind line arcs bs)) ++ after) × (m ≡ 3 + k)
     body_failed text m e =
         then_err (λ r. then_read (λ ys. Ok (r.0, ys)) (read_nodes read p.nodes (3 + p.arcs) r.1)) (read_lines (read_arc kind p.nodes) p.arcs 3 text) m e

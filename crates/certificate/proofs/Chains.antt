@@ -1,4 +1,4 @@
--- What a chain of reads went through, where it gave a value.
+-- What a chain of reads went through, if it gave a value.
 use Rattle.std.proofs.Common.{◌≡◌, Bool, true, false, cond, Option, Some, None, option_and_then, refl, ap}
 use Rattle.std.proofs.lemmas.Option.{none-some, same_Some}
 

@@ -32,19 +32,16 @@ digit_at [] k all l = absurd (omega arith)
 digit_at (d ∷ ds) zero all l = (and_parts _ _ all).0
 digit_at (d ∷ ds) (suc k) all l = digit_at ds k (and_parts _ _ all).1 (omega arith)
 
--- the digits end where the next byte is none
+-- the digits end if the next byte is none
 pub digits_end : (s : List ℕ) (i : ℕ) → i ≤ length s → all_ascii_digits (take i s) ≡ true → (i < length s → is_ascii_digit (get_or s i 0) ≡ false) → digit_count s ≡ i
 digits_end s i l all stop = prefix_len_is is_ascii_digit s i 0 l (λ k h. let inside : k < length (take i s) = omega (arith, length-take-le i s l) in sym (ap is_ascii_digit (get_or-take i s k 0 h)) ∙ digit_at (take i s) k all inside) stop
 
--- a number of at most 18 digits has room for one more
-pub value_small : (s : List ℕ) (i : ℕ) → i ≤ 18 → all_ascii_digits (take i s) ≡ true → read_on 0 (take i s) < 10 ^ 18
-value_small s i l all = digits_value_short own (take i s) 18 all (omega (arith, length-take i s))
+-- the value of at most n digits
+pub value_small : (s : List ℕ) (i n : ℕ) → i ≤ n → all_ascii_digits (take i s) ≡ true → read_on 0 (take i s) < 10 ^ n
+value_small s i n l all = digits_value_short own (take i s) n all (omega (arith, l, length-take i s))
 
 -- a turn of the loop that reads digits
 pub digits_turn : (s : List ℕ) (i j value byte : ℕ) → i ≡ j → j < length s → byte ≡ get_or s j 0 → is_ascii_digit byte ≡ true → all_ascii_digits (take i s) ≡ true → value ≡ read_on 0 (take i s) → (all_ascii_digits (take (i + 1) s) ≡ true) × (value * 10 + (byte - 48) ≡ read_on 0 (take (i + 1) s))
 digits_turn s i j value byte same l at is all read =
     let here : byte ≡ get_or s i 0 = at ∙ ap (λ k. get_or s k 0) (sym same) in
     (digits_more s i (omega arith) all (ap is_ascii_digit (sym here) ∙ is), ap (λ v. v * 10 + (byte - 48)) read ∙ ap (λ b. read_on 0 (take i s) * 10 + (b - 48)) here ∙ sym (value_more s i (omega arith)))
-
-pub wide_small : (s : List ℕ) (i : ℕ) → i ≤ 23 → all_ascii_digits (take i s) ≡ true → read_on 0 (take i s) < 10 ^ 23
-wide_small s i l all = digits_value_short own (take i s) 23 all (omega (arith, length-take i s))

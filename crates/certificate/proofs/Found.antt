@@ -18,7 +18,7 @@ position_none p xs i d l before =
     let len = position_or_len_is p xs (length xs) d (omega arith) (λ k m. before k (omega (arith, l, m))) (λ m. absurd (omega (arith, m))) in
     sym (ap (λ m. cond (nat_lt m (length xs)) (Some m) None) len ∙ ap (λ b. cond b (Some (length xs)) None) (le-ltb (length xs) (length xs) (omega arith)))
 
--- up to here the test held nowhere
+-- the test held of nothing before
 pub below_none : (test : ℕ → Bool) (n : ℕ) → ((k : ℕ) → k < n → test k ≡ false) → None ≡ first_below test n
 below_none test zero before = refl
 below_none test (suc n) before = sym (ap (or_last test n) (sym (below_none test n (λ k l. before k (omega arith)))) ∙ ap (λ b. cond b (Some n) None) (before n (omega arith)))
@@ -53,7 +53,7 @@ below_None test (suc n) e k l =
     last_None (Some i) f = absurd (none-some i (sym f))
     last_None None f = (refl, here (test n) f)
 
--- where the test was found nowhere, it holds of no item
+-- if the test was not found, it holds of no item
 pub position_None : {X : Type 0} (p : X → Bool) (xs : List X) → position p xs ≡ None → All (λ x. p x ≡ false) xs
 position_None p xs e k d l = by (nat_lt (position_or_len p xs) (length xs)) refl e
   where

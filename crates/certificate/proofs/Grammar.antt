@@ -1,4 +1,4 @@
--- Each line is read exactly where the grammar has it.
+-- Each line is read if and only if the grammar has it.
 use Rattle.std.proofs.Common.{ℕ, zero, suc, ◌-◌, ◌^◌, ◌<◌, ◌≤◌, ◌≡◌, Bool, List, [], ◌∷◌, ◌++◌, true, false, cond, drop, get_or, Option, Some, None, refl, sym, ap, ◌∙◌, subst, arith, append_assoc}
 use Rattle.std.specs.Prelude.{◌==◌, decimal, codes, nat_lt, slice_index, ℤ, pos, negsuc, ◌-ℤ◌, option_map}
 use Rattle.std.specs.Fmt.{signed_decimal}
@@ -8,11 +8,12 @@ use Rattle.std.proofs.lemmas.Int.{ints}
 use Rattle.plan_base.specs.declared.amount.TheConstants.{MAX}
 use Rattle.flow_model.specs.Instance.{IsGoodArc}
 use Rattle.flow_model.specs.Potentials.{IsSmall}
-use Rattle.certificate.specs.declared.limits.TheConstants.{VERSION, MOST_ARCS, MOST_NODES, MOST_COST, POTENTIAL_DIGITS, MOST_POTENTIAL}
+use Rattle.flow_model.specs.declared.limits.TheConstants.{COST_MAX, POTENTIAL_MAX}
+use Rattle.certificate.specs.declared.limits.TheConstants.{VERSION, CERT_ARCS_MAX, CERT_NODES_MAX, POTENTIAL_DIGITS_MAX}
 use Rattle.certificate.specs.declared.cert.CertArc.{CertArc}
 use Rattle.certificate.specs.declared.problem.Problem.{Problem}
-use Rattle.certificate.specs.declared.problem.Kind.{Kind}
-use Rattle.certificate.specs.declared.problem.Kind.TheVariants as Kinds
+use Rattle.certificate.specs.declared.problem.CertificateKind.{CertificateKind}
+use Rattle.certificate.specs.declared.problem.CertificateKind.TheVariants as Kinds
 use Rattle.certificate.specs.Cert.{arc_of, IsGoodProblem}
 use Rattle.certificate.specs.Text.{fields, head_line, arc_line, potential_line, side_line, end_line}
 use Rattle.certificate.specs.Reading.{read_head, read_kind, read_problem, read_units, read_arc, read_negative, read_signed, read_potential, read_side, read_end, read_field, read_word, read_byte, read_number}
@@ -80,7 +81,7 @@ read_side_complete on rest =
     bit true = refl
     bit false = refl
 
-most_potential : (n : ℕ) → n ≤ MOST_POTENTIAL → n < 10 ^ 24
+most_potential : (n : ℕ) → n ≤ POTENTIAL_MAX → n < 10 ^ 24
 most_potential n le = omega (arith, le)
 
 minus : (n : ℕ) → 0 < n → signed_decimal (pos 0 -ℤ pos n) ≡ 45 ∷ decimal n
@@ -91,28 +92,28 @@ pub read_signed_sound : (text rest : List ℕ) (z : ℤ) → read_signed text �
 unfolding read_signed read_negative
 read_signed_sound text rest z e = by (slice_index text 0 == 45) refl e
   where
-    plain : (o : Option (ℕ × List ℕ)) → read_number POTENTIAL_DIGITS MOST_POTENTIAL text ≡ o → ◌≡◌ {A = Option (ℤ × List ℕ)} (option_map (λ n. (pos n.0, n.1)) o) (Some (z, rest)) → IsSmall z × (text ≡ signed_decimal z ++ rest)
+    plain : (o : Option (ℕ × List ℕ)) → read_number POTENTIAL_DIGITS_MAX POTENTIAL_MAX text ≡ o → ◌≡◌ {A = Option (ℤ × List ℕ)} (option_map (λ n. (pos n.0, n.1)) o) (Some (z, rest)) → IsSmall z × (text ≡ signed_decimal z ++ rest)
     plain None _ g = absurd (none-some _ g)
     plain (Some n) number g =
         let h = same_parts (pos n.0) z n.1 rest g in
-        let s = read_number_sound POTENTIAL_DIGITS MOST_POTENTIAL text n.1 n.0 (omega arith) number in
+        let s = read_number_sound POTENTIAL_DIGITS_MAX POTENTIAL_MAX text n.1 n.0 (omega arith) number in
         (subst IsSmall h.0 (omega (arith, ints, s.0), omega (arith, ints, s.0)), s.1 ∙ (λ i. signed_decimal (h.0 i) ++ h.1 i))
 
     front : (t : List ℕ) → slice_index t 0 ≡ 45 → t ≡ 45 ∷ drop 1 t
     front [] is = absurd (omega (arith, is))
     front (c ∷ t) is = ap (λ d. d ∷ t) is
 
-    by : (b : Bool) → (slice_index text 0 == 45) ≡ b → ◌≡◌ {A = Option (ℤ × List ℕ)} (if b then read_negative (drop 1 text) else option_map (λ n. (pos n.0, n.1)) (read_number POTENTIAL_DIGITS MOST_POTENTIAL text)) (Some (z, rest)) → IsSmall z × (text ≡ signed_decimal z ++ rest)
+    by : (b : Bool) → (slice_index text 0 == 45) ≡ b → ◌≡◌ {A = Option (ℤ × List ℕ)} (if b then read_negative (drop 1 text) else option_map (λ n. (pos n.0, n.1)) (read_number POTENTIAL_DIGITS_MAX POTENTIAL_MAX text)) (Some (z, rest)) → IsSmall z × (text ≡ signed_decimal z ++ rest)
     by true is f =
-        and_then_some _ (read_number POTENTIAL_DIGITS MOST_POTENTIAL (drop 1 text)) _ f λ n number g.
+        and_then_some _ (read_number POTENTIAL_DIGITS_MAX POTENTIAL_MAX (drop 1 text)) _ f λ n number g.
         let some = cond_none (n.0 == 0) _ _ g in
         let h = same_parts (pos 0 -ℤ pos n.0) z n.1 rest some.1 in
-        let s = read_number_sound POTENTIAL_DIGITS MOST_POTENTIAL (drop 1 text) n.1 n.0 (omega arith) number in
+        let s = read_number_sound POTENTIAL_DIGITS_MAX POTENTIAL_MAX (drop 1 text) n.1 n.0 (omega arith) number in
         let positive = eqb-false n.0 0 some.0 in (
           subst IsSmall h.0 (omega (arith, ints, s.0), omega (arith, ints, s.0)),
           front text (eqb-true (slice_index text 0) 45 is) ∙ ap (λ r. 45 ∷ r) s.1 ∙ ap (λ w. w ++ n.1) (sym (minus n.0 (omega (arith, positive)))) ∙ (λ i. signed_decimal (h.0 i) ++ h.1 i),
         )
-    by false is f = plain (read_number POTENTIAL_DIGITS MOST_POTENTIAL text) refl f
+    by false is f = plain (read_number POTENTIAL_DIGITS_MAX POTENTIAL_MAX text) refl f
 
 pub read_signed_complete : (z : ℤ) (rest : List ℕ) → IsSmall z → NoDigit rest → read_signed (signed_decimal z ++ rest) ≡ Some (z, rest)
 unfolding read_signed read_negative
@@ -124,13 +125,13 @@ read_signed_complete (pos n) rest small stop =
     let same = get_or_append_left (decimal n) rest 0 0 some in
     rw (
       ne_eqb (slice_index (decimal n ++ rest) 0) 45 (λ e. omega (arith, digit.0, same, e)),
-      read_number_complete POTENTIAL_DIGITS MOST_POTENTIAL n rest (omega arith) (omega arith) (omega (arith, few)) few stop,
+      read_number_complete POTENTIAL_DIGITS_MAX POTENTIAL_MAX n rest (omega arith) (omega arith) (omega (arith, few)) few stop,
     ) refl
 read_signed_complete (negsuc m) rest small stop =
     let few : suc m < 10 ^ 24 = omega (arith, ints, small.0) in
     let below : pos 0 -ℤ pos (suc m) ≡ negsuc m = omega (arith, ints) in
     rw (
-      read_number_complete POTENTIAL_DIGITS MOST_POTENTIAL (suc m) rest (omega arith) (omega arith) (omega (arith, few)) few stop,
+      read_number_complete POTENTIAL_DIGITS_MAX POTENTIAL_MAX (suc m) rest (omega arith) (omega arith) (omega (arith, few)) few stop,
       ne_eqb (suc m) 0 (λ e. omega (arith, e)),
     ) (ap (λ z. Some (z, rest)) below)
 
@@ -153,23 +154,23 @@ unfolding read_potential potential_line
 read_potential_complete z rest small =
     rw (read_word_complete (codes "potential ") (signed_decimal z ++ 10 ∷ [] ++ rest), append_assoc (signed_decimal z) (10 ∷ []) rest, read_signed_complete z (10 ∷ rest) small refl) refl
 
-abbrev pub kind_word : Kind → List ℕ
+abbrev pub kind_word : CertificateKind → List ℕ
 kind_word Kinds.Flow = codes "flow"
 kind_word Kinds.Cut = codes "cut"
 
 unfoldable pub problem_fields : Problem → List ℕ
 problem_fields p = fields (p.nodes ∷ p.arcs ∷ p.source ∷ p.destination ∷ p.demand ∷ [])
 
-pub read_kind_sound : (text rest : List ℕ) (kind : Kind) → read_kind text ≡ Some (kind, rest) → text ≡ kind_word kind ++ rest
+pub read_kind_sound : (text rest : List ℕ) (kind : CertificateKind) → read_kind text ≡ Some (kind, rest) → text ≡ kind_word kind ++ rest
 unfolding read_kind
 read_kind_sound text rest kind e = by (starts_with nat_eq text (codes "flow")) (starts_with nat_eq text (codes "cut")) refl refl e
   where
-    by : (b c : Bool) → starts_with nat_eq text (codes "flow") ≡ b → starts_with nat_eq text (codes "cut") ≡ c → ◌≡◌ {A = Option (Kind × List ℕ)} (if b then Some (Kinds.Flow, drop 4 text) else (if c then Some (Kinds.Cut, drop 3 text) else None)) (Some (kind, rest)) → text ≡ kind_word kind ++ rest
+    by : (b c : Bool) → starts_with nat_eq text (codes "flow") ≡ b → starts_with nat_eq text (codes "cut") ≡ c → ◌≡◌ {A = Option (CertificateKind × List ℕ)} (if b then Some (Kinds.Flow, drop 4 text) else (if c then Some (Kinds.Cut, drop 3 text) else None)) (Some (kind, rest)) → text ≡ kind_word kind ++ rest
     by true c is _ f = let h = same_parts _ kind _ rest f in starts_sound (codes "flow") text is ∙ (λ i. kind_word (h.0 i) ++ h.1 i)
     by false true _ is f = let h = same_parts _ kind _ rest f in starts_sound (codes "cut") text is ∙ (λ i. kind_word (h.0 i) ++ h.1 i)
     by false false _ _ f = absurd (none-some _ f)
 
-pub read_kind_complete : (kind : Kind) (rest : List ℕ) → read_kind (kind_word kind ++ rest) ≡ Some (kind, rest)
+pub read_kind_complete : (kind : CertificateKind) (rest : List ℕ) → read_kind (kind_word kind ++ rest) ≡ Some (kind, rest)
 unfolding read_kind
 read_kind_complete Kinds.Flow rest = refl
 read_kind_complete Kinds.Cut rest = refl
@@ -177,8 +178,8 @@ read_kind_complete Kinds.Cut rest = refl
 pub read_problem_sound : (text rest : List ℕ) (p : Problem) → read_problem text ≡ Some (p, rest) → IsGoodProblem p × (text ≡ problem_fields p ++ rest)
 unfolding read_problem problem_fields
 read_problem_sound text rest p e =
-    and_then_some _ (read_field MOST_NODES text) _ e λ n field1 e1.
-    and_then_some _ (read_field MOST_ARCS n.1) _ e1 λ m field2 e2.
+    and_then_some _ (read_field CERT_NODES_MAX text) _ e λ n field1 e1.
+    and_then_some _ (read_field CERT_ARCS_MAX n.1) _ e1 λ m field2 e2.
     and_then_some _ (read_field (n.0 - 1) m.1) _ e2 λ s field3 e3.
     and_then_some _ (read_field (n.0 - 1) s.1) _ e3 λ d field4 e4.
     and_then_some _ (read_field MAX d.1) _ e4 λ u field5 e5.
@@ -187,8 +188,8 @@ read_problem_sound text rest p e =
     let apart = cond_none (s.0 == d.0) _ _ some.1 in
     let demand = cond_none (u.0 == 0) _ _ apart.1 in
     let h = same_parts _ p b rest demand.1 in
-    let f1 = read_field_sound MOST_NODES text n.1 n.0 field1 in
-    let f2 = read_field_sound MOST_ARCS n.1 m.1 m.0 field2 in
+    let f1 = read_field_sound CERT_NODES_MAX text n.1 n.0 field1 in
+    let f2 = read_field_sound CERT_ARCS_MAX n.1 m.1 m.0 field2 in
     let f3 = read_field_sound (n.0 - 1) m.1 s.1 s.0 field3 in
     let f4 = read_field_sound (n.0 - 1) s.1 d.1 d.0 field4 in
     let f5 = read_field_sound MAX d.1 u.1 u.0 field5 in
@@ -212,8 +213,8 @@ unfolding read_problem problem_fields
 read_problem_complete p rest good =
     let nodes : p.nodes - 1 < 10 ^ 19 = omega (arith, good.few_nodes) in
     rw (
-      read_field_complete MOST_NODES p.nodes _ rest good.few_nodes (omega arith),
-      read_field_complete MOST_ARCS p.arcs _ rest good.few_arcs (omega arith),
+      read_field_complete CERT_NODES_MAX p.nodes _ rest good.few_nodes (omega arith),
+      read_field_complete CERT_ARCS_MAX p.arcs _ rest good.few_arcs (omega arith),
       read_field_complete (p.nodes - 1) p.source _ rest good.source_in nodes,
       read_field_complete (p.nodes - 1) p.destination _ rest good.destination_in nodes,
       read_field_complete MAX p.demand [] rest good.most_demand (omega arith),
@@ -223,24 +224,24 @@ read_problem_complete p rest good =
     ) refl
 
 -- what an arc's line keeps
-abbrev pub IsLoad : Kind → CertArc → Type 0
+abbrev pub IsLoad : CertificateKind → CertArc → Type 0
 IsLoad Kinds.Flow a = a.units ≤ MAX
 IsLoad Kinds.Cut a = a.units ≡ 0
 
-pub record IsGoodLine (kind : Kind) (nodes : ℕ) (a : CertArc) : Type 0 where
+pub record IsGoodLine (kind : CertificateKind) (nodes : ℕ) (a : CertArc) : Type 0 where
   pub from_in : a.from ≤ nodes - 1
   pub to_in : a.to ≤ nodes - 1
   pub good : IsGoodArc (arc_of a)
   pub load : IsLoad kind a
 
-abbrev pub units_field : Kind → CertArc → List ℕ
+abbrev pub units_field : CertificateKind → CertArc → List ℕ
 units_field Kinds.Flow a = a.units ∷ []
 units_field Kinds.Cut a = []
 
-abbrev pub load_line : Kind → CertArc → List ℕ
+abbrev pub load_line : CertificateKind → CertArc → List ℕ
 load_line kind a = arc_line (arc_of a) (units_field kind a)
 
-read_units_sound : (kind : Kind) (text after rest : List ℕ) (u : ℕ) (a : CertArc) → read_units kind text ≡ Some (u, after) → after ≡ 10 ∷ rest → a.units ≡ u → IsLoad kind a × (text ≡ fields (units_field kind a) ++ rest)
+read_units_sound : (kind : CertificateKind) (text after rest : List ℕ) (u : ℕ) (a : CertArc) → read_units kind text ≡ Some (u, after) → after ≡ 10 ∷ rest → a.units ≡ u → IsLoad kind a × (text ≡ fields (units_field kind a) ++ rest)
 unfolding read_units
 read_units_sound Kinds.Flow text after rest u a e behind is =
     let f = read_field_sound MAX text after u e in
@@ -249,19 +250,19 @@ read_units_sound Kinds.Cut text after rest u a e behind is =
     let h = same_parts 0 u text after e in
     (is ∙ sym h.0, h.1 ∙ behind)
 
-read_units_complete : (kind : Kind) (a : CertArc) (rest : List ℕ) → IsLoad kind a → read_units kind (fields (units_field kind a) ++ rest) ≡ Some (a.units, 10 ∷ rest)
+read_units_complete : (kind : CertificateKind) (a : CertArc) (rest : List ℕ) → IsLoad kind a → read_units kind (fields (units_field kind a) ++ rest) ≡ Some (a.units, 10 ∷ rest)
 unfolding read_units
 read_units_complete Kinds.Flow a rest load = read_field_complete MAX a.units [] rest load (omega arith)
 read_units_complete Kinds.Cut a rest load = ap (λ n. Some (n, 10 ∷ rest)) (sym load)
 
-pub read_arc_sound : (kind : Kind) (nodes : ℕ) (text rest : List ℕ) (a : CertArc) → read_arc kind nodes text ≡ Some (a, rest) → IsGoodLine kind nodes a × (text ≡ load_line kind a ++ rest)
+pub read_arc_sound : (kind : CertificateKind) (nodes : ℕ) (text rest : List ℕ) (a : CertArc) → read_arc kind nodes text ≡ Some (a, rest) → IsGoodLine kind nodes a × (text ≡ load_line kind a ++ rest)
 unfolding read_arc arc_line
 read_arc_sound kind nodes text rest a e =
     and_then_some _ (read_word (codes "arc") text) _ e λ w word e1.
     and_then_some _ (read_field (nodes - 1) w) _ e1 λ f field1 e2.
     and_then_some _ (read_field (nodes - 1) f.1) _ e2 λ t field2 e3.
     and_then_some _ (read_field MAX t.1) _ e3 λ r field3 e4.
-    and_then_some _ (read_field MOST_COST r.1) _ e4 λ c field4 e5.
+    and_then_some _ (read_field COST_MAX r.1) _ e4 λ c field4 e5.
     and_then_some _ (read_units kind c.1) _ e5 λ u field5 e6.
     and_then_some _ (read_byte 10 u.1) _ e6 λ b byte e7.
     let apart = cond_none (f.0 == t.0) _ _ e7 in
@@ -272,7 +273,7 @@ read_arc_sound kind nodes text rest a e =
     let f1 = read_field_sound (nodes - 1) w f.1 f.0 field1 in
     let f2 = read_field_sound (nodes - 1) f.1 t.1 t.0 field2 in
     let f3 = read_field_sound MAX t.1 r.1 r.0 field3 in
-    let f4 = read_field_sound MOST_COST r.1 c.1 c.0 field4 in
+    let f4 = read_field_sound COST_MAX r.1 c.1 c.0 field4 in
     let f5 = read_units_sound kind c.1 u.1 rest u.0 q field5 (read_byte_sound 10 u.1 b byte ∙ ap (λ s. 10 ∷ s) h.1) refl in
     let no_room = eqb-false r.0 0 room.0 in
     let no_cost = eqb-false c.0 0 cost.0 in
@@ -294,7 +295,7 @@ read_arc_sound kind nodes text rest a e =
           ∙ sym (append_assoc (codes "arc") (fields (f.0 ∷ t.0 ∷ r.0 ∷ c.0 ∷ units_field kind q)) rest),
     )
 
-pub read_arc_complete : (kind : Kind) (nodes : ℕ) (a : CertArc) (rest : List ℕ) → nodes ≤ MOST_NODES → IsGoodLine kind nodes a → read_arc kind nodes (load_line kind a ++ rest) ≡ Some (a, rest)
+pub read_arc_complete : (kind : CertificateKind) (nodes : ℕ) (a : CertArc) (rest : List ℕ) → nodes ≤ CERT_NODES_MAX → IsGoodLine kind nodes a → read_arc kind nodes (load_line kind a ++ rest) ≡ Some (a, rest)
 unfolding read_arc arc_line
 read_arc_complete kind nodes a rest few good =
     let ends : nodes - 1 < 10 ^ 19 = omega (arith, few) in
@@ -305,7 +306,7 @@ read_arc_complete kind nodes a rest few good =
       read_field_complete (nodes - 1) a.from _ rest good.from_in ends,
       read_field_complete (nodes - 1) a.to _ rest good.to_in ends,
       read_field_complete MAX a.room _ rest arc.most_room (omega arith),
-      read_field_complete MOST_COST a.cost _ rest (omega (arith, arc.most_cost)) (omega arith),
+      read_field_complete COST_MAX a.cost _ rest (omega (arith, arc.most_cost)) (omega arith),
       read_units_complete kind a rest good.load,
       ne_eqb a.from a.to arc.apart,
       ne_eqb a.room 0 (λ e. omega (arith, arc.some_room, e)),

@@ -15,3 +15,4 @@ pub mod Found
 pub mod Verdicts
 pub mod Printed
 pub mod Passes
+pub mod Ascii

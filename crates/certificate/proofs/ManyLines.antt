@@ -10,7 +10,7 @@ module _ {A : Type 0} (read : List ℕ → Option (A × List ℕ)) (line : A →
   joined-cons : (x : A) (xs : List A) (rest : List ℕ) → line x ++ (concat (map line xs) ++ rest) ≡ concat (map line (x ∷ xs)) ++ rest
   joined-cons x xs rest = sym (append_assoc (line x) (concat (map line xs)) rest)
 
-  -- so many lines were read: each is good, and they stand at the front
+  -- this many lines were read: each is good, and the text begins with them
   pub lines_sound : (n start : ℕ) (text rest : List ℕ) (xs : List A) → read_lines read n start text ≡ Ok (xs, rest) → (length xs ≡ n) × All Good xs × (text ≡ concat (map line xs) ++ rest)
   lines_sound zero start text rest xs e =
       let same = same_Ok _ _ e in
@@ -36,7 +36,7 @@ module _ {A : Type 0} (read : List ℕ → Option (A × List ℕ)) (line : A →
       ∙ ap (line_then start (read_lines read (length xs) (start + 1))) (complete x (concat (map line xs) ++ rest) (All-head Good x xs good))
       ∙ ap (prepend x) (lines_complete xs (start + 1) rest (All-tail Good x xs good))
 
-  -- a failure comes behind some good lines
+  -- a failure comes after some good lines
   pub lines_failed : (n start : ℕ) (text : List ℕ) (fault : ℕ) → read_lines read n start text ≡ Err fault → (done : List A) × (rest : List ℕ) × All Good done × (text ≡ concat (map line done) ++ rest) × (length done < n) × (fault ≡ start + length done)
   lines_failed zero start text fault e = absurd (ok-err _ fault e)
   lines_failed (suc n) start text fault e = by (read text) refl e (lines_failed n (start + 1))

@@ -32,7 +32,7 @@ behind_last : (line m : ℕ) (rest : List ℕ) → nothing_after line rest ≡ E
 behind_last line m [] f = absurd (ok-err tt m f)
 behind_last line m (c ∷ rest) f = same_Err line m f
 
--- the last line is missing, or something is behind it
+-- the last line is missing, or something is after it
 last_failed : (start m : ℕ) (text : List ℕ) → read_last start text ≡ Err m → (j : ℕ) × (after : List ℕ) × (j ≤ 1) × (text ≡ concat (take j (end_line ∷ [])) ++ after) × (m ≡ start + j)
 unfolding read_last
 last_failed start m text e =

@@ -10,7 +10,7 @@ use Rattle.flow_model.specs.declared.instance.Arc.{Arc}
 use Rattle.flow_model.specs.declared.solve.Solved.{Solved}
 use Rattle.flow_model.specs.declared.solve.Solved.TheVariants.{Flow, Cut}
 use Rattle.flow_model.specs.Instance.{Net, IsInstance, IsGoodArc}
-use Rattle.certificate.specs.declared.limits.TheConstants.{MOST_ARCS, MOST_NODES}
+use Rattle.certificate.specs.declared.limits.TheConstants.{CERT_ARCS_MAX, CERT_NODES_MAX}
 use Rattle.certificate.specs.Certificate.{IsCertificate, IsAnswerFor, without_directions}
 use Rattle.certificate.specs.Text.{fields, arc_line, problem_line, certificate_text, arc_lines, kind_of, node_lines, head_line, end_line}
 
@@ -66,7 +66,7 @@ abbrev erase : Arc → Arc
 erase a = record a { dir = 0 }
 
 -- what is printed is a certificate
-pub printed : (net : Net) (answer : Solved) → IsInstance net → net.nodes ≤ MOST_NODES → length net.arcs ≤ MOST_ARCS → IsAnswerFor net answer → IsCertificate (record { net = without_directions net; answer = answer })
+pub printed : (net : Net) (answer : Solved) → IsInstance net → net.nodes ≤ CERT_NODES_MAX → length net.arcs ≤ CERT_ARCS_MAX → IsAnswerFor net answer → IsCertificate (record { net = without_directions net; answer = answer })
 printed net answer good nodes arcs fits = record {
   ends = record {
     source_in = good.ends.source_in;

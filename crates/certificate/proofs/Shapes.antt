@@ -13,8 +13,8 @@ use Rattle.flow_model.specs.Potentials.{IsSmall}
 use Rattle.flow_model.proofs.Balance.{All-zip}
 use Rattle.certificate.specs.declared.cert.CertArc.{CertArc}
 use Rattle.certificate.specs.declared.problem.Problem.{Problem}
-use Rattle.certificate.specs.declared.problem.Kind.{Kind}
-use Rattle.certificate.specs.declared.problem.Kind.TheVariants as Kinds
+use Rattle.certificate.specs.declared.problem.CertificateKind.{CertificateKind}
+use Rattle.certificate.specs.declared.problem.CertificateKind.TheVariants as Kinds
 use Rattle.certificate.specs.Certificate.{Certificate, IsCertificate}
 use Rattle.certificate.specs.Cert.{IsGoodProblem, arc_of, net_of}
 use Rattle.certificate.specs.Text.{fields, head_line, problem_line, arc_line, potential_line, side_line, end_line, certificate_lines}
@@ -78,7 +78,7 @@ read_cut p text = by (read_lines (read_arc Kinds.Cut p.nodes) p.arcs 3 text)
 
 -- what is read keeps the ranges
 
-module _ (kind : Kind) (p : Problem) (arcs : List CertArc) (good : IsGoodProblem p) (long : length arcs ≡ p.arcs) (all : All (IsGoodLine kind p.nodes) arcs) where
+module _ (kind : CertificateKind) (p : Problem) (arcs : List CertArc) (good : IsGoodProblem p) (long : length arcs ≡ p.arcs) (all : All (IsGoodLine kind p.nodes) arcs) where
   net_ends : IsNet (net_of p arcs)
   net_ends = record {
     source_in = omega (arith, good.source_in, good.some_nodes);
@@ -154,7 +154,7 @@ units_back [] (n ∷ flow) long = absurd (omega arith)
 units_back (a ∷ arcs) [] long = absurd (omega arith)
 units_back (a ∷ arcs) (n ∷ flow) long = ap (λ ns. n ∷ ns) (units_back arcs flow (omega arith))
 
-All-seconds : (P : ℕ → Type 0) (arcs : List Arc) (flow : List ℕ) → All P flow → All (λ (l : Arc × ℕ). P l.1) (zip arcs flow)
+pub All-seconds : (P : ℕ → Type 0) (arcs : List Arc) (flow : List ℕ) → All P flow → All (λ (l : Arc × ℕ). P l.1) (zip arcs flow)
 All-seconds P [] flow all k d l = absurd (omega arith)
 All-seconds P (a ∷ arcs) [] all k d l = absurd (omega arith)
 All-seconds P (a ∷ arcs) (n ∷ flow) all zero d l = All-head P n flow all

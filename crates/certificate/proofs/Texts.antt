@@ -11,8 +11,8 @@ use Rattle.std.proofs.lemmas.List.Elements.{All-nil, All-cons, All-weaker}
 use Rattle.std.proofs.lemmas.Int.{ints}
 use Rattle.certificate.specs.declared.cert.CertArc.{CertArc}
 use Rattle.certificate.specs.declared.problem.Problem.{Problem}
-use Rattle.certificate.specs.declared.problem.Kind.{Kind}
-use Rattle.certificate.specs.declared.problem.Kind.TheVariants as Kinds
+use Rattle.certificate.specs.declared.problem.CertificateKind.{CertificateKind}
+use Rattle.certificate.specs.declared.problem.CertificateKind.TheVariants as Kinds
 use Rattle.certificate.specs.Certificate.{Certificate, IsCertificate}
 use Rattle.certificate.specs.Text.{head_line, potential_line, side_line, certificate_lines, certificate_text}
 use Rattle.certificate.specs.Line.{BeginsLike, IsFirstBadLine}
@@ -25,20 +25,20 @@ use Rattle.certificate.proofs.ManyLines.{lines_sound}
 use Rattle.certificate.proofs.Bodies.{body_lines, IsBody, read_parts, body_sound, body_complete, body_failed, body_later}
 use Rattle.certificate.proofs.Shapes.{flow_cert, cut_cert, IsAnyBool, flow_lines, cut_lines, read_flow, read_cut, flow_is_certificate, cut_is_certificate, flow_form, cut_form}
 
-abbrev behind_head : Kind → Problem → List ℕ → List ℕ
+abbrev behind_head : CertificateKind → Problem → List ℕ → List ℕ
 behind_head kind p text = kind_word kind ++ (problem_fields p ++ text)
 
 -- the first two lines are read
-front_read : (kind : Kind) (p : Problem) (text : List ℕ) → IsGoodProblem p → read_text (head_line ++ behind_head kind p text) ≡ read_body kind p text
+front_read : (kind : CertificateKind) (p : Problem) (text : List ℕ) → IsGoodProblem p → read_text (head_line ++ behind_head kind p text) ≡ read_body kind p text
 unfolding read_text
 front_read kind p text good =
-    let third = λ (k : Kind × List ℕ). then_read (λ (q : Problem × List ℕ). read_body k.0 q.0 q.1) (or_line 2 (read_problem k.1)) in
+    let third = λ (k : CertificateKind × List ℕ). then_read (λ (q : Problem × List ℕ). read_body k.0 q.0 q.1) (or_line 2 (read_problem k.1)) in
     let second = λ (t : List ℕ). then_read third (or_line 2 (read_kind t)) in
     ap (λ o. then_read second (or_line 1 o)) (read_head_complete (behind_head kind p text))
     ∙ ap (λ o. then_read third (or_line 2 o)) (read_kind_complete kind (problem_fields p ++ text))
     ∙ ap (λ o. then_read (λ (q : Problem × List ℕ). read_body kind q.0 q.1) (or_line 2 o)) (read_problem_complete p text good)
 
-module _ {B : Type 0} (read : List ℕ → Option (B × List ℕ)) (line : B → List ℕ) (Good : B → Type 0) (sound : (text rest : List ℕ) (x : B) → read text ≡ Some (x, rest) → Good x × (text ≡ line x ++ rest)) (complete : (x : B) (rest : List ℕ) → Good x → read (line x ++ rest) ≡ Some (x, rest)) (filler : B) (filler_good : Good filler) (kind : Kind) (make : Problem → List CertArc → List B → Certificate) (lines : (p : Problem) (arcs : List CertArc) (bs : List B) → length arcs ≡ p.arcs → certificate_lines (make p arcs bs) ≡ head_line ∷ (kind_word kind ++ problem_fields p) ∷ body_lines kind line arcs bs) (reads : (p : Problem) (text : List ℕ) → read_body kind p text ≡ then_read (λ q. Ok (make p q.0 q.1)) (read_parts kind read p text)) (certifies : (p : Problem) (arcs : List CertArc) (bs : List B) → IsGoodProblem p → IsBody kind Good p arcs bs → IsCertificate (make p arcs bs)) where
+module _ {B : Type 0} (read : List ℕ → Option (B × List ℕ)) (line : B → List ℕ) (Good : B → Type 0) (sound : (text rest : List ℕ) (x : B) → read text ≡ Some (x, rest) → Good x × (text ≡ line x ++ rest)) (complete : (x : B) (rest : List ℕ) → Good x → read (line x ++ rest) ≡ Some (x, rest)) (filler : B) (filler_good : Good filler) (kind : CertificateKind) (make : Problem → List CertArc → List B → Certificate) (lines : (p : Problem) (arcs : List CertArc) (bs : List B) → length arcs ≡ p.arcs → certificate_lines (make p arcs bs) ≡ head_line ∷ (kind_word kind ++ problem_fields p) ∷ body_lines kind line arcs bs) (reads : (p : Problem) (text : List ℕ) → read_body kind p text ≡ then_read (λ q. Ok (make p q.0 q.1)) (read_parts kind read p text)) (certifies : (p : Problem) (arcs : List CertArc) (bs : List B) → IsGoodProblem p → IsBody kind Good p arcs bs → IsCertificate (make p arcs bs)) where
   -- the first lines of such a certificate
   first_lines : (p : Problem) (arcs : List CertArc) (bs : List B) (k : ℕ) → length arcs ≡ p.arcs → concat (take (2 + k) (certificate_lines (make p arcs bs))) ≡ head_line ++ behind_head kind p (concat (take k (body_lines kind line arcs bs)))
   first_lines p arcs bs k long =
@@ -94,7 +94,7 @@ module _ {B : Type 0} (read : List ℕ → Option (B × List ℕ)) (line : B →
       ))
       (λ q were f. absurd (ok-err (make p q.0 q.1) m f))
     where
-      spread : (k : Kind) (p : Problem) (front after : List ℕ) → head_line ++ behind_head k p (front ++ after) ≡ head_line ++ behind_head k p front ++ after
+      spread : (k : CertificateKind) (p : Problem) (front after : List ℕ) → head_line ++ behind_head k p (front ++ after) ≡ head_line ++ behind_head k p front ++ after
       spread k p front after =
           ap (λ w. head_line ++ (kind_word k ++ w)) (sym (append_assoc (problem_fields p) front after))
           ∙ ap (λ w. head_line ++ w) (sym (append_assoc (kind_word k) (problem_fields p ++ front) after))
@@ -110,16 +110,16 @@ side_again : (b : Bool) (rest : List ℕ) → IsAnyBool b → read_side (side_li
 side_again b rest _ = read_side_complete b rest
 
 -- a body that isn't read
-body_failed_at : (kind : Kind) (p : Problem) (text : List ℕ) (m : ℕ) → IsGoodProblem p → read_body kind p text ≡ Err m → (3 ≤ m) × ((c : Certificate) × (IsCertificate c × BeginsLike c (m - 1) (head_line ++ behind_head kind p text)))
+body_failed_at : (kind : CertificateKind) (p : Problem) (text : List ℕ) (m : ℕ) → IsGoodProblem p → read_body kind p text ≡ Err m → (3 ≤ m) × ((c : Certificate) × (IsCertificate c × BeginsLike c (m - 1) (head_line ++ behind_head kind p text)))
 body_failed_at Kinds.Flow = form_failed read_potential potential_line IsSmall read_potential_sound read_potential_complete (pos 0) zero_small Kinds.Flow flow_cert flow_lines read_flow flow_is_certificate
 body_failed_at Kinds.Cut = form_failed read_side side_line IsAnyBool any_side side_again false tt Kinds.Cut cut_cert cut_lines read_cut cut_is_certificate
 
-body_sound_at : (kind : Kind) (p : Problem) (text : List ℕ) (c : Certificate) → IsGoodProblem p → read_body kind p text ≡ Ok c → IsCertificate c × (certificate_text c ≡ head_line ++ behind_head kind p text)
+body_sound_at : (kind : CertificateKind) (p : Problem) (text : List ℕ) (c : Certificate) → IsGoodProblem p → read_body kind p text ≡ Ok c → IsCertificate c × (certificate_text c ≡ head_line ++ behind_head kind p text)
 body_sound_at Kinds.Flow = form_sound read_potential potential_line IsSmall read_potential_sound read_potential_complete (pos 0) zero_small Kinds.Flow flow_cert flow_lines read_flow flow_is_certificate
 body_sound_at Kinds.Cut = form_sound read_side side_line IsAnyBool any_side side_again false tt Kinds.Cut cut_cert cut_lines read_cut cut_is_certificate
 
 -- the arcs that were read, and the certificate that they and the answer make
-pub arcs_read : (kind : Kind) (p : Problem) (text rest : List ℕ) (arcs : List CertArc) → IsGoodProblem p → read_lines (read_arc kind p.nodes) p.arcs 3 text ≡ Ok (arcs, rest) → (length arcs ≡ p.arcs) × All (λ a. a.from < p.nodes) arcs × All (λ a. a.to < p.nodes) arcs
+pub arcs_read : (kind : CertificateKind) (p : Problem) (text rest : List ℕ) (arcs : List CertArc) → IsGoodProblem p → read_lines (read_arc kind p.nodes) p.arcs 3 text ≡ Ok (arcs, rest) → (length arcs ≡ p.arcs) × All (λ a. a.from < p.nodes) arcs × All (λ a. a.to < p.nodes) arcs
 arcs_read kind p text rest arcs good e =
     let h = lines_sound (read_arc kind p.nodes) (load_line kind) (IsGoodLine kind p.nodes) (read_arc_sound kind p.nodes) (λ a r. read_arc_complete kind p.nodes a r good.few_nodes) p.arcs 3 text rest arcs e in (
       h.0,
@@ -127,7 +127,7 @@ arcs_read kind p text rest arcs good e =
       All-weaker (IsGoodLine kind p.nodes) (λ a. a.to < p.nodes) (λ a l. omega (arith, l.to_in, good.some_nodes)) arcs h.1,
     )
 
-pub body_read : (kind : Kind) (p : Problem) (text rest : List ℕ) (arcs : List CertArc) (answer : Solved) → IsGoodProblem p → read_lines (read_arc kind p.nodes) p.arcs 3 text ≡ Ok (arcs, rest) → read_answer kind p.nodes arcs (3 + p.arcs) rest ≡ Ok answer → IsCertificate (record { net = net_of p arcs; answer = answer })
+pub body_read : (kind : CertificateKind) (p : Problem) (text rest : List ℕ) (arcs : List CertArc) (answer : Solved) → IsGoodProblem p → read_lines (read_arc kind p.nodes) p.arcs 3 text ≡ Ok (arcs, rest) → read_answer kind p.nodes arcs (3 + p.arcs) rest ≡ Ok answer → IsCertificate (record { net = net_of p arcs; answer = answer })
 unfolding read_body
 body_read kind p text rest arcs answer good lines nodes =
     (body_sound_at kind p text (record { net = net_of p arcs; answer = answer }) good
@@ -136,17 +136,17 @@ body_read kind p text rest arcs answer good lines nodes =
 
 -- what was read before a body that isn't
 pub record Begun (text : List ℕ) : Type 0 where
-  pub kind : Kind
+  pub kind : CertificateKind
   pub p : Problem
   pub rest : List ℕ
   pub good : IsGoodProblem p
   pub stands : text ≡ head_line ++ behind_head kind p rest
 
--- what a failure of the whole text is: at the first line, at the second, or behind them
+-- what a failure of the whole text is: at the first line, at the second, or after them
 failed_where : {P : Type 0} (text : List ℕ) (m : ℕ) → read_text text ≡ Err m → (m ≡ 1 → P) → ((rest : List ℕ) → text ≡ head_line ++ rest → m ≡ 2 → P) → ((b : Begun text) → read_body b.kind b.p b.rest ≡ Err m → P) → P
 unfolding read_text
 failed_where text m e first second behind =
-    let third = λ (k : Kind × List ℕ). then_read (λ (q : Problem × List ℕ). read_body k.0 q.0 q.1) (or_line 2 (read_problem k.1)) in
+    let third = λ (k : CertificateKind × List ℕ). then_read (λ (q : Problem × List ℕ). read_body k.0 q.0 q.1) (or_line 2 (read_problem k.1)) in
     then_err (λ (t : List ℕ). then_read third (or_line 2 (read_kind t))) (or_line 1 (read_head text)) m e
     (λ here. first (or_line_err 1 m (read_head text) here).1)
     (λ rest was e1.
@@ -172,7 +172,7 @@ err_some text m e = failed_where text m e (λ one. omega (arith, one)) (λ rest 
 err_behind_head : (text : List ℕ) (m : ℕ) → read_text (head_line ++ text) ≡ Err m → 2 ≤ m
 unfolding read_text
 err_behind_head text m e =
-    let third = λ (k : Kind × List ℕ). then_read (λ (q : Problem × List ℕ). read_body k.0 q.0 q.1) (or_line 2 (read_problem k.1)) in
+    let third = λ (k : CertificateKind × List ℕ). then_read (λ (q : Problem × List ℕ). read_body k.0 q.0 q.1) (or_line 2 (read_problem k.1)) in
     let second : then_read third (or_line 2 (read_kind text)) ≡ Err m = sym (ap (λ o. then_read (λ (t : List ℕ). then_read third (or_line 2 (read_kind t))) (or_line 1 o)) (read_head_complete text)) ∙ e in
     then_err third (or_line 2 (read_kind text)) m second
     (λ here. omega (arith, (or_line_err 2 m (read_kind text) here).1))
@@ -181,7 +181,7 @@ err_behind_head text m e =
     (λ here. omega (arith, (or_line_err 2 m (read_problem k.1) here).1))
     (λ q numbers e3. omega (arith, (body_failed_at k.0 q.0 q.1 m (read_problem_sound k.1 q.1 q.0 (or_line_ok 2 (read_problem k.1) q numbers)).0 e3).0)))
 
-module _ {B : Type 0} (read : List ℕ → Option (B × List ℕ)) (line : B → List ℕ) (Good : B → Type 0) (sound : (text rest : List ℕ) (x : B) → read text ≡ Some (x, rest) → Good x × (text ≡ line x ++ rest)) (complete : (x : B) (rest : List ℕ) → Good x → read (line x ++ rest) ≡ Some (x, rest)) (filler : B) (filler_good : Good filler) (kind : Kind) (make : Problem → List CertArc → List B → Certificate) (lines : (p : Problem) (arcs : List CertArc) (bs : List B) → length arcs ≡ p.arcs → certificate_lines (make p arcs bs) ≡ head_line ∷ (kind_word kind ++ problem_fields p) ∷ body_lines kind line arcs bs) (reads : (p : Problem) (text : List ℕ) → read_body kind p text ≡ then_read (λ q. Ok (make p q.0 q.1)) (read_parts kind read p text)) (certifies : (p : Problem) (arcs : List CertArc) (bs : List B) → IsGoodProblem p → IsBody kind Good p arcs bs → IsCertificate (make p arcs bs)) where
+module _ {B : Type 0} (read : List ℕ → Option (B × List ℕ)) (line : B → List ℕ) (Good : B → Type 0) (sound : (text rest : List ℕ) (x : B) → read text ≡ Some (x, rest) → Good x × (text ≡ line x ++ rest)) (complete : (x : B) (rest : List ℕ) → Good x → read (line x ++ rest) ≡ Some (x, rest)) (filler : B) (filler_good : Good filler) (kind : CertificateKind) (make : Problem → List CertArc → List B → Certificate) (lines : (p : Problem) (arcs : List CertArc) (bs : List B) → length arcs ≡ p.arcs → certificate_lines (make p arcs bs) ≡ head_line ∷ (kind_word kind ++ problem_fields p) ∷ body_lines kind line arcs bs) (reads : (p : Problem) (text : List ℕ) → read_body kind p text ≡ then_read (λ q. Ok (make p q.0 q.1)) (read_parts kind read p text)) (certifies : (p : Problem) (arcs : List CertArc) (bs : List B) → IsGoodProblem p → IsBody kind Good p arcs bs → IsCertificate (make p arcs bs)) where
   -- no failure is within the first lines of such a certificate
   pub form_later : (p : Problem) (arcs : List CertArc) (bs : List B) (n m : ℕ) (text : List ℕ) → IsGoodProblem p → IsBody kind Good p arcs bs → BeginsLike (make p arcs bs) n text → read_text text ≡ Err m → n < m
   form_later p arcs bs zero m text good body begins e = omega (arith, err_some text m e)
@@ -204,7 +204,7 @@ module _ {B : Type 0} (read : List ℕ → Option (B × List ℕ)) (line : B →
       (λ here. let h = body_later read line Good sound complete filler filler_good kind p good arcs bs k m after body (omega (arith, few, length-lines read line Good sound complete filler filler_good kind make lines reads certifies p arcs bs body.arcs_long)) here in omega (arith, h))
       (λ q were f. absurd (ok-err (make p q.0 q.1) m f))
     where
-      gather : (k : Kind) (p : Problem) (front after : List ℕ) → head_line ++ behind_head k p front ++ after ≡ head_line ++ behind_head k p (front ++ after)
+      gather : (k : CertificateKind) (p : Problem) (front after : List ℕ) → head_line ++ behind_head k p front ++ after ≡ head_line ++ behind_head k p (front ++ after)
       gather k p front after =
           append_assoc head_line (behind_head k p front) after
           ∙ ap (λ w. head_line ++ w) (append_assoc (kind_word k) (problem_fields p ++ front) after)
@@ -242,7 +242,7 @@ text_complete c good = complete_at c.net c.answer good
 pub text_sound : (text : List ℕ) (c : Certificate) → read_text text ≡ Ok c → IsCertificate c × (certificate_text c ≡ text)
 unfolding read_text
 text_sound text c e =
-    let third = λ (k : Kind × List ℕ). then_read (λ (q : Problem × List ℕ). read_body k.0 q.0 q.1) (or_line 2 (read_problem k.1)) in
+    let third = λ (k : CertificateKind × List ℕ). then_read (λ (q : Problem × List ℕ). read_body k.0 q.0 q.1) (or_line 2 (read_problem k.1)) in
     then_ok (λ (t : List ℕ). then_read third (or_line 2 (read_kind t))) (or_line 1 (read_head text)) c e λ rest was e1.
     then_ok third (or_line 2 (read_kind rest)) c e1 λ k word e2.
     then_ok (λ (q : Problem × List ℕ). read_body k.0 q.0 q.1) (or_line 2 (read_problem k.1)) c e2 λ q numbers e3.

@@ -14,11 +14,11 @@ use Rattle.flow_model.specs.declared.instance.Arc.{Arc}
 use Rattle.flow_model.specs.declared.solve.Solved.{Solved}
 use Rattle.flow_model.specs.declared.solve.Solved.TheVariants.{Flow, Cut}
 use Rattle.flow_model.specs.Instance.{Net}
-use Rattle.flow_model.specs.Flow.{loads, leaving, entering, IsFeasible, IsCheapest}
-use Rattle.flow_model.specs.Potentials.{reduced_cost, IsShown}
-use Rattle.flow_model.specs.Side.{on_side, crossing}
+use Rattle.flow_model.specs.Flow.{loads, leaving, entering, IsFeasible}
+use Rattle.flow_model.specs.Potentials.{reduced_cost, IsShown, ShowsCheapest}
+use Rattle.flow_model.specs.Side.{Cuts, on_side, crossing}
 use Rattle.flow_model.proofs.Duality.{shown_is_cheapest, cut_has_no_flow}
-use Rattle.certificate.specs.declared.limits.TheConstants.{MOST_ARCS}
+use Rattle.certificate.specs.declared.limits.TheConstants.{CERT_ARCS_MAX}
 use Rattle.certificate.specs.declared.cert.CertArc.{CertArc}
 use Rattle.certificate.specs.declared.problem.Problem.{Problem}
 use Rattle.certificate.specs.declared.verdict.Verdict.{Verdict}
@@ -87,7 +87,7 @@ All-of_map P (a ∷ arcs) all zero d l = All-head P (arc_of a) (map arc_of arcs)
 All-of_map P (a ∷ arcs) all (suc k) d l = All-of_map P arcs (All-tail P (arc_of a) (map arc_of arcs) all) k d (omega arith)
 
 -- the rooms that leave a side fit 128 bits
-pub room_fits : (side : List Bool) (arcs : List CertArc) → All (λ a. a.room ≤ MAX) arcs → length arcs ≤ MOST_ARCS → room_left side arcs < 2 ^ 128
+pub room_fits : (side : List Bool) (arcs : List CertArc) → All (λ a. a.room ≤ MAX) arcs → length arcs ≤ CERT_ARCS_MAX → room_left side arcs < 2 ^ 128
 room_fits side arcs rooms few = omega (arith, few, sum_by-le (λ (a : CertArc). crossing side (arc_of a)) MAX arcs (All-weaker (λ a. a.room ≤ MAX) (λ a. crossing side (arc_of a) ≤ MAX) (λ a l. small (on_side side a.from && not (on_side side a.to)) a.room l) arcs rooms))
   where
     small : (b : Bool) (r : ℕ) → r ≤ MAX → cond b r 0 ≤ MAX
@@ -129,8 +129,8 @@ module _ (net : Net) (flow : List ℕ) (p : List ℤ) (good : IsCertificate (rec
     sent = let e = balance net.source good.ends.source_in ∙ ap (λ b. cond b (pos net.demand) (cond (net.source == net.destination) (pos 0 -ℤ pos net.demand) (pos 0))) (eq-eqb net.source net.source refl) in omega (arith, ints, e);
   }
 
-  cheapest : IsCheapest net flow
-  cheapest = shown_is_cheapest net flow p good.ends record {
+  shows : ShowsCheapest net flow p
+  shows = record {
     long = good.answer.2;
     feasible = feasible;
     shown = All-weaker (λ l. is_missed p l ≡ false) (IsShown p) (shown p) (loads net flow) (position_None (is_missed p) (loads net flow) seen);
@@ -143,14 +143,16 @@ verdict_is_true net (Flow flow p) good = by (position is_over (loads net flow)) 
     by (Some i) b c e f g = tt
     by None (Some v) c e f g = tt
     by None None (Some i) e f g = tt
-    by None None None e f g = cheapest net flow p good e f g
+    by None None None e f g = let h = shows net flow p good e f g in (h, shown_is_cheapest net flow p good.ends h)
 verdict_is_true net (Cut side) good = by (on_side side net.source) (on_side side net.destination) (nat_le net.demand (sum_by (crossing side) net.arcs)) refl refl refl
   where
     by : (a b c : Bool) → on_side side net.source ≡ a → on_side side net.destination ≡ b → nat_le net.demand (sum_by (crossing side) net.arcs) ≡ c → IsTrueOf (record { net = net; answer = Cut side }) (cond (not a) (No (3 + length net.arcs + net.source)) (cond b (No (3 + length net.arcs + net.destination)) (cond c (No 2) NoFlow)))
     by false b c e f g = tt
     by true true c e f g = tt
     by true false true e f g = tt
-    by true false false e f g = λ flow ok. cut_has_no_flow net side flow good.ends (record { long = good.answer; source_on = e; destination_off = f; small = leb-false net.demand (sum_by (crossing side) net.arcs) g }) ok
+    by true false false e f g =
+        let cuts : Cuts net side = record { long = good.answer; source_on = e; destination_off = f; small = leb-false net.demand (sum_by (crossing side) net.arcs) g } in
+        (cuts, λ flow ok. cut_has_no_flow net side flow good.ends cuts ok)
 
 pub true_verdict : (c : Certificate) (v : Verdict) → IsCertificate c → v ≡ verdict_of c → IsTrueOf c v
 true_verdict c v good e = subst (IsTrueOf c) (sym e) (verdict_is_true c.net c.answer good)

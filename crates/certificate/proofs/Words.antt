@@ -1,4 +1,4 @@
--- Words, and numbers behind a space, are read exactly where they stand.
+-- Words, and numbers after a space, are read if and only if the text begins with them.
 use Rattle.std.proofs.Common.{ℕ, ◌^◌, ◌<◌, ◌≤◌, ◌≡◌, List, [], ◌∷◌, ◌++◌, true, cond, length, take, drop, Some, None, refl, sym, ap, ◌∙◌, arith, append_assoc, take-append-drop}
 use Rattle.std.specs.Prelude.{◌&&◌, ◌==◌, decimal, nat_eq}
 use Rattle.std.specs.List.{starts_with}
@@ -49,7 +49,7 @@ read_field_sound most text rest n e =
     let h = read_number_sound _ most after rest n (omega arith) number in
     (h.0, read_byte_sound 32 text after space ∙ ap (λ r. 32 ∷ r) h.1)
 
--- fields, and what is behind them
+-- fields, and what comes after them
 pub fields_end : (text rest : List ℕ) → text ≡ 10 ∷ rest → text ≡ fields [] ++ rest
 fields_end text rest e = e
 

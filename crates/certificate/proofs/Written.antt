@@ -1,4 +1,4 @@
--- A number is read exactly where `decimal` wrote it.
+-- A number is read if and only if `decimal` wrote it.
 use Rattle.std.proofs.Common.{ℕ, zero, suc, ◌+◌, ◌-◌, ◌*◌, ◌/◌, ◌%◌, ◌^◌, ◌<◌, ◌≤◌, ◌≡◌, Bool, List, [], ◌∷◌, ◌++◌, true, false, cond, length, take, drop, get_or, Option, Some, None, refl, sym, ap, ◌∙◌, inl, inr, arith, append_assoc, take-append-drop, le-ltb, lt-ltb, lt_of_lt_of_le}
 use Rattle.std.proofs.Math.Nat.{pow-le-pow_right}
 use Rattle.std.specs.Prelude.{◌&&◌, ◌==◌, decimal, slice_index, nat_lt, if◌then◌else◌}

@@ -1,7 +1,7 @@
--- A certificate's fields in code, seen as a certificate.
+-- Serves private clauses only: the fields of a certificate in code, seen as a certificate.
 use Rattle.std.specs.Prelude.{ℕ, ◌<◌, ◌≤◌, ◌≡◌, ◌≢◌, ◌-◌, List, length, map, sum_by, cond, nat_eq, ℤ, pos, ◌-ℤ◌, slice_index_or}
 use Rattle.plan_base.specs.declared.amount.TheConstants.{MAX}
-use Rattle.certificate.specs.declared.limits.TheConstants.{MOST_ARCS, MOST_NODES}
+use Rattle.certificate.specs.declared.limits.TheConstants.{CERT_ARCS_MAX, CERT_NODES_MAX}
 use Rattle.certificate.specs.declared.cert.CertArc.{CertArc}
 use Rattle.certificate.specs.declared.cert.Evidence.{Evidence}
 use Rattle.certificate.specs.declared.cert.Evidence.TheVariants.{Potentials, Side}
@@ -21,18 +21,18 @@ abbrev pub answer_of : List CertArc → Evidence → Solved
 answer_of arcs (Potentials potentials balances) = Flow (map (λ a. a.units) arcs) potentials.items
 answer_of arcs (Side side) = Cut side.items
 
--- what the numbers of the second line keep
+-- the ranges of the numbers of the second line
 pub record IsGoodProblem (p : Problem) : Type 0 where
   pub some_nodes : 2 ≤ p.nodes
-  pub few_nodes : p.nodes ≤ MOST_NODES
-  pub few_arcs : p.arcs ≤ MOST_ARCS
+  pub few_nodes : p.nodes ≤ CERT_NODES_MAX
+  pub few_arcs : p.arcs ≤ CERT_ARCS_MAX
   pub source_in : p.source ≤ p.nodes - 1
   pub destination_in : p.destination ≤ p.nodes - 1
   pub apart : p.source ≢ p.destination
   pub some_demand : 1 ≤ p.demand
   pub most_demand : p.demand ≤ MAX
 
--- each node has what leaves it less what enters it
+-- each node has the units that leave it less the units that enter it
 pub record Tallies (nodes : ℕ) (balances : List ℤ) (arcs : List CertArc) : Type 0 where
   pub long : length balances ≡ nodes
   pub each : (v : ℕ) → v < nodes → slice_index_or balances v (pos 0) ≡ pos (sum_by (λ (a : CertArc). cond (nat_eq a.from v) a.units 0) arcs) -ℤ pos (sum_by (λ (a : CertArc). cond (nat_eq a.to v) a.units 0) arcs)

@@ -2,7 +2,7 @@
 use Rattle.std.specs.Prelude.{ℕ, ◌≤◌, ◌≡◌, List, length, map, All, Bool, ℤ, Option, Some, None, option_map}
 use Rattle.std.specs.Borrow.{Bor}
 use Rattle.plan_base.specs.declared.amount.TheConstants.{MAX}
-use Rattle.certificate.specs.declared.limits.TheConstants.{MOST_ARCS, MOST_NODES}
+use Rattle.certificate.specs.declared.limits.TheConstants.{CERT_ARCS_MAX, CERT_NODES_MAX}
 use Rattle.flow_model.specs.declared.instance.Arc.{Arc}
 use Rattle.flow_model.specs.declared.solve.Solved.{Solved}
 use Rattle.flow_model.specs.declared.solve.Solved.TheVariants.{Flow, Cut}
@@ -13,16 +13,16 @@ pub record Certificate : Type 0 where
   pub net : Net
   pub answer : Solved
 
--- an answer has one item for each arc or node, flows of 0 to MAX and potentials below 10^24 in absolute value
+-- an answer has one item for each arc or node, flows of 0 to MAX and potentials of at most POTENTIAL_MAX in absolute value
 abbrev pub IsAnswerFor : Net → Solved → Type 0
 IsAnswerFor net (Flow flow potentials) = (length flow ≡ length net.arcs) × All (λ units. units ≤ MAX) flow × (length potentials ≡ net.nodes) × All IsSmall potentials
 IsAnswerFor net (Cut side) = length side ≡ net.nodes
 
--- the ranges of a certificate's numbers; its arcs have no direction, which stands as 0
+-- the ranges of a certificate's numbers; its arcs have no direction, which is given as 0
 pub record IsCertificate (c : Certificate) : Type 0 where
   pub ends : IsNet c.net
-  pub few_nodes : c.net.nodes ≤ MOST_NODES
-  pub few_arcs : length c.net.arcs ≤ MOST_ARCS
+  pub few_nodes : c.net.nodes ≤ CERT_NODES_MAX
+  pub few_arcs : length c.net.arcs ≤ CERT_ARCS_MAX
   pub some_demand : 1 ≤ c.net.demand
   pub most_demand : c.net.demand ≤ MAX
   pub good_arcs : All IsGoodArc c.net.arcs
@@ -40,7 +40,7 @@ flow_certificate net flow potentials = record { net = without_directions net; an
 abbrev pub cut_certificate : Net → List Bool → Certificate
 cut_certificate net side = record { net = without_directions net; answer = Cut side }
 
--- the potentials, where there is a flow
+-- the potentials, if there is a flow
 abbrev pub potentials_of : Solved → Option (List ℤ)
 potentials_of (Flow flow potentials) = Some potentials
 potentials_of (Cut side) = None

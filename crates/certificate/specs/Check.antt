@@ -1,4 +1,4 @@
--- What the check of a certificate answers.
+-- What the check of a certificate returns.
 use Rattle.std.specs.Prelude.{ℕ, zero, suc, ◌+◌, ◌&&◌, ◌||◌, not, Bool, List, length, position, sum_by, Option, Some, None, ◌==◌, nat_lt, nat_le, int_lt, if◌then◌else◌, ℤ, pos, ◌-ℤ◌}
 use Rattle.std.specs.Ordering.{int_eq}
 use Rattle.flow_model.specs.declared.instance.Arc.{Arc}
@@ -6,8 +6,8 @@ use Rattle.flow_model.specs.declared.solve.Solved.{Solved}
 use Rattle.flow_model.specs.declared.solve.Solved.TheVariants.{Flow, Cut}
 use Rattle.flow_model.specs.Instance.{Net}
 use Rattle.flow_model.specs.Flow.{loads, leaving, entering, IsFeasible, IsCheapest}
-use Rattle.flow_model.specs.Potentials.{reduced_cost}
-use Rattle.flow_model.specs.Side.{on_side, crossing}
+use Rattle.flow_model.specs.Potentials.{reduced_cost, ShowsCheapest}
+use Rattle.flow_model.specs.Side.{Cuts, on_side, crossing}
 use Rattle.certificate.specs.declared.verdict.Verdict.{Verdict}
 use Rattle.certificate.specs.declared.verdict.Verdict.TheVariants.{Cheapest, NoFlow, No}
 use Rattle.certificate.specs.Certificate.{Certificate}
@@ -16,7 +16,7 @@ use Rattle.certificate.specs.Certificate.{Certificate}
 abbrev pub is_over : Arc × ℕ → Bool
 is_over l = nat_lt l.0.room l.1
 
--- what is to leave a node more than enters it, for these ends and demand
+-- how many more units leave a node than enter it in a feasible flow, for these ends and demand
 abbrev pub due : ℕ → ℕ → ℕ → ℕ → ℤ
 due source destination demand v = if v == source then pos demand else (if v == destination then pos 0 -ℤ pos demand else pos 0)
 
@@ -26,7 +26,7 @@ is_uneven_balance source destination demand v balance = not (int_eq balance (due
 abbrev pub is_uneven : Net → List ℕ → ℕ → Bool
 is_uneven net flow v = is_uneven_balance net.source net.destination net.demand v (pos (leaving v (loads net flow)) -ℤ pos (entering v (loads net flow)))
 
--- an arc with room left that gains, one with units that loses
+-- an arc with room left has a reduced cost below 0; one with units has a reduced cost above 0
 abbrev pub gains : ℕ → ℕ → ℤ → Bool
 gains units room reduced = nat_lt units room && int_lt reduced (pos 0)
 
@@ -37,7 +37,7 @@ loses units reduced = nat_lt 0 units && int_lt (pos 0) reduced
 abbrev pub is_missed : List ℤ → Arc × ℕ → Bool
 is_missed p l = gains l.1 l.0.room (reduced_cost p l.0) || loses l.1 (reduced_cost p l.0)
 
--- the least number below n that the test takes
+-- the least number below n for which the test holds
 abbrev pub or_last : (ℕ → Bool) → ℕ → Option ℕ → Option ℕ
 or_last test n (Some i) = Some i
 or_last test n None = if test n then Some n else None
@@ -46,7 +46,7 @@ abbrev pub first_below : (ℕ → Bool) → ℕ → Option ℕ
 first_below test zero = None
 first_below test (suc n) = or_last test n (first_below test n)
 
--- a failure at a place, whose line is counted from `start`; else what comes later
+-- a failure at an index, whose line is counted from `start`; else the later result
 abbrev pub no_at : ℕ → Option ℕ → Verdict → Verdict
 no_at start (Some i) later = No (start + i)
 no_at start None later = later
@@ -58,7 +58,7 @@ flow_verdict net flow p =
     (no_at (3 + length net.arcs) (first_below (is_uneven net flow) net.nodes)
     (no_at 3 (position (is_missed p) (loads net flow)) Cheapest))
 
--- the source on the side, the destination off it, then the rooms that leave it
+-- the source on the side, the destination off it, then the room that leaves it
 abbrev pub cut_verdict : Net → List Bool → Verdict
 cut_verdict net side =
     if not (on_side side net.source) then No (3 + length net.arcs + net.source)
@@ -72,13 +72,18 @@ verdict_for net (Cut side) = cut_verdict net side
 abbrev pub verdict_of : Certificate → Verdict
 verdict_of c = verdict_for c.net c.answer
 
--- the answer is a cheapest flow
-abbrev pub IsCheapestAnswer : Net → Solved → Type 0
-IsCheapestAnswer net (Flow flow potentials) = IsCheapest net flow
-IsCheapestAnswer net (Cut side) = ⊥
+-- the answer is a cheapest flow, and its potentials show it
+abbrev pub IsShownCheapest : Net → Solved → Type 0
+IsShownCheapest net (Flow flow potentials) = ShowsCheapest net flow potentials × IsCheapest net flow
+IsShownCheapest net (Cut side) = ⊥
+
+-- the answer is a side that cuts the source off, and no flow is feasible
+abbrev pub IsShownCut : Net → Solved → Type 0
+IsShownCut net (Flow flow potentials) = ⊥
+IsShownCut net (Cut side) = Cuts net side × ((flow : List ℕ) → IsFeasible net flow → ⊥)
 
 -- what a verdict says of a certificate's instance
 abbrev pub IsTrueOf : Certificate → Verdict → Type 0
-IsTrueOf c Cheapest = IsCheapestAnswer c.net c.answer
-IsTrueOf c NoFlow = (flow : List ℕ) → IsFeasible c.net flow → ⊥
+IsTrueOf c Cheapest = IsShownCheapest c.net c.answer
+IsTrueOf c NoFlow = IsShownCut c.net c.answer
 IsTrueOf c (No line) = Unit {0}

@@ -12,10 +12,10 @@ use Rattle.certificate.specs.Text.{certificate_text}
 abbrev pub TextIsReadBack : Type 0
 TextIsReadBack = (c d : Certificate) → IsCertificate c → IsCertificate d → certificate_text c ≡ certificate_text d → c ≡ d
 
--- the certificate of a flow with potentials that show it passes the check
+-- the certificate of a flow passes the check if its potentials show it
 abbrev pub ShownPasses : Type 0
 ShownPasses = (net : Net) (flow : List ℕ) (p : List ℤ) → IsNet net → ShowsCheapest net flow p → verdict_of (flow_certificate net flow p) ≡ Cheapest
 
--- the certificate of a side that cuts passes the check
+-- the certificate of a side passes the check if the side cuts the source off
 abbrev pub CutPasses : Type 0
 CutPasses = (net : Net) (side : List Bool) → Cuts net side → verdict_of (cut_certificate net side) ≡ NoFlow

@@ -1,15 +1,17 @@
--- What the functions that read a certificate compute. `proofs/` shows that they read the grammar.
+-- Serves private clauses only: what the functions that read a certificate compute. `proofs/` shows that they read the
+-- grammar.
 use Rattle.std.specs.Prelude.{ℕ, zero, suc, ◌+◌, ◌-◌, ◌*◌, Bool, ◌&&◌, List, [], ◌∷◌, length, take, drop, map, codes, slice_index, Option, Some, None, Result, Ok, Err, option_map, option_and_then, ◌==◌, nat_lt, if◌then◌else◌, ℤ, pos, ◌-ℤ◌}
 use Rattle.std.specs.List.{prefix_len, starts_with}
 use Rattle.std.specs.Prelude.{nat_eq}
 use Rattle.std.specs.Char.{is_ascii_digit}
 use Rattle.std.specs.Borrow.{Bor}
 use Rattle.plan_base.specs.declared.amount.TheConstants.{MAX}
-use Rattle.certificate.specs.declared.limits.TheConstants.{VERSION, MOST_ARCS, MOST_NODES, MOST_COST, AMOUNT_DIGITS, POTENTIAL_DIGITS, MOST_POTENTIAL}
+use Rattle.flow_model.specs.declared.limits.TheConstants.{COST_MAX, POTENTIAL_MAX}
+use Rattle.certificate.specs.declared.limits.TheConstants.{VERSION, CERT_ARCS_MAX, CERT_NODES_MAX, AMOUNT_DIGITS_MAX, POTENTIAL_DIGITS_MAX}
 use Rattle.certificate.specs.declared.cert.CertArc.{CertArc}
 use Rattle.certificate.specs.declared.problem.Problem.{Problem}
-use Rattle.certificate.specs.declared.problem.Kind.{Kind}
-use Rattle.certificate.specs.declared.problem.Kind.TheVariants as Kinds
+use Rattle.certificate.specs.declared.problem.CertificateKind.{CertificateKind}
+use Rattle.certificate.specs.declared.problem.CertificateKind.TheVariants as Kinds
 use Rattle.flow_model.specs.declared.solve.Solved.{Solved}
 use Rattle.flow_model.specs.declared.solve.Solved.TheVariants.{Flow, Cut}
 use Rattle.certificate.specs.Certificate.{Certificate}
@@ -23,6 +25,10 @@ Read A = Option (A × List ℕ)
 abbrev pub read_view : {A : Type 0} → Option (A × Bor (List ℕ)) → Read A
 read_view r = option_map (λ p. (p.0, p.1.now)) r
 
+-- the same for a number, whose value is a natural number
+abbrev pub value_view : {A : Type 0} → (A → ℕ) → Option (A × Bor (List ℕ)) → Read ℕ
+value_view value r = option_map (λ p. (value p.0, p.1.now)) r
+
 abbrev pub text_view : Option (Bor (List ℕ)) → Option (List ℕ)
 text_view r = option_map (λ t. t.now) r
 
@@ -30,16 +36,16 @@ infixl 10 ◌>>=◌
 abbrev ◌>>=◌ : {A B : Type 0} → Option A → (A → Option B) → Option B
 o >>= f = option_and_then f o
 
--- what follows the word at the front
+-- the text after the word, if the text begins with it
 unfoldable pub read_word : List ℕ → List ℕ → Option (List ℕ)
 read_word word text = if starts_with nat_eq text word then Some (drop (length word) text) else None
 
--- what follows the byte at the front
+-- the text after the byte, if the text begins with it
 abbrev pub read_byte : ℕ → List ℕ → Option (List ℕ)
 read_byte byte [] = None
 read_byte byte (first ∷ rest) = if first == byte then Some rest else None
 
--- the number that digits write, behind a number
+-- the number that digits write, after the digits of a number
 abbrev pub read_on : ℕ → List ℕ → ℕ
 read_on n [] = n
 read_on n (c ∷ cs) = read_on (n * 10 + (c - 48)) cs
@@ -59,7 +65,7 @@ read_number places most text =
 unfoldable pub read_field : ℕ → List ℕ → Read ℕ
 read_field most text = do
   number ← read_byte 32 text
-  read_number AMOUNT_DIGITS most number
+  read_number AMOUNT_DIGITS_MAX most number
 
 unfoldable pub read_head : List ℕ → Option (List ℕ)
 read_head text = do
@@ -68,31 +74,31 @@ read_head text = do
   after ← read_byte 10 n.1
   if n.0 == VERSION then Some after else None
 
-unfoldable pub read_kind : List ℕ → Read Kind
+unfoldable pub read_kind : List ℕ → Read CertificateKind
 read_kind text = if starts_with nat_eq text (codes "flow") then Some (Kinds.Flow, drop 4 text) else (if starts_with nat_eq text (codes "cut") then Some (Kinds.Cut, drop 3 text) else None)
 
 unfoldable pub read_problem : List ℕ → Read Problem
 read_problem text = do
-  nodes ← read_field MOST_NODES text
-  arcs ← read_field MOST_ARCS nodes.1
+  nodes ← read_field CERT_NODES_MAX text
+  arcs ← read_field CERT_ARCS_MAX nodes.1
   source ← read_field (nodes.0 - 1) arcs.1
   destination ← read_field (nodes.0 - 1) source.1
   demand ← read_field MAX destination.1
   after ← read_byte 10 demand.1
   if nat_lt nodes.0 2 then None else (if source.0 == destination.0 then None else (if demand.0 == 0 then None else Some (record { nodes = nodes.0; arcs = arcs.0; source = source.0; destination = destination.0; demand = demand.0 }, after)))
 
--- the flow at the end of an arc's line, where there is one
-unfoldable pub read_units : Kind → List ℕ → Read ℕ
+-- the units at the end of an arc's line, if the certificate has a flow
+unfoldable pub read_units : CertificateKind → List ℕ → Read ℕ
 read_units Kinds.Flow text = read_field MAX text
 read_units Kinds.Cut text = Some (0, text)
 
-unfoldable pub read_arc : Kind → ℕ → List ℕ → Read CertArc
+unfoldable pub read_arc : CertificateKind → ℕ → List ℕ → Read CertArc
 read_arc kind nodes text = do
   ends ← read_word (codes "arc") text
   from ← read_field (nodes - 1) ends
   to ← read_field (nodes - 1) from.1
   room ← read_field MAX to.1
-  cost ← read_field MOST_COST room.1
+  cost ← read_field COST_MAX room.1
   units ← read_units kind cost.1
   after ← read_byte 10 units.1
   if from.0 == to.0 then None else (if room.0 == 0 then None else (if cost.0 == 0 then None else Some (record { from = from.0; to = to.0; room = room.0; cost = cost.0; units = units.0 }, after)))
@@ -100,11 +106,11 @@ read_arc kind nodes text = do
 -- a number below zero, whose minus was read
 unfoldable pub read_negative : List ℕ → Read ℤ
 read_negative text = do
-  n ← read_number POTENTIAL_DIGITS MOST_POTENTIAL text
+  n ← read_number POTENTIAL_DIGITS_MAX POTENTIAL_MAX text
   if n.0 == 0 then None else Some (pos 0 -ℤ pos n.0, n.1)
 
 unfoldable pub read_signed : List ℕ → Read ℤ
-read_signed text = if slice_index text 0 == 45 then read_negative (drop 1 text) else option_map (λ n. (pos n.0, n.1)) (read_number POTENTIAL_DIGITS MOST_POTENTIAL text)
+read_signed text = if slice_index text 0 == 45 then read_negative (drop 1 text) else option_map (λ n. (pos n.0, n.1)) (read_number POTENTIAL_DIGITS_MAX POTENTIAL_MAX text)
 
 unfoldable pub read_potential : List ℕ → Read ℤ
 read_potential text = do
@@ -125,7 +131,7 @@ read_end text = do
   after ← read_word (codes "end") text
   read_byte 10 after
 
--- the next step, where this one read something; else the line at which it failed
+-- the next step, if this one succeeded; else the line at which it failed
 abbrev pub then_read : {A B : Type 0} → (A → Result B ℕ) → Result A ℕ → Result B ℕ
 then_read f (Ok x) = f x
 then_read f (Err line) = Err line
@@ -146,7 +152,7 @@ abbrev pub line_then : {A : Type 0} → ℕ → (List ℕ → Result (List A × 
 line_then line more (Some p) = prepend p.0 (more p.1)
 line_then line more None = Err line
 
--- so many lines, the first of which has this number
+-- this many lines, the first of which has this number
 abbrev pub read_lines : {A : Type 0} → (List ℕ → Read A) → ℕ → ℕ → List ℕ → Result (List A × List ℕ) ℕ
 read_lines read zero line text = Ok ([], text)
 read_lines read (suc n) line text = line_then line (read_lines read n (line + 1)) (read text)
@@ -155,7 +161,7 @@ abbrev pub nothing_after : ℕ → List ℕ → Result (Unit {0}) ℕ
 nothing_after line [] = Ok tt
 nothing_after line (c ∷ text) = Err line
 
--- the last line, with nothing behind it
+-- the last line, with nothing after it
 unfoldable pub read_last : ℕ → List ℕ → Result (Unit {0}) ℕ
 read_last line text = then_read (nothing_after (line + 1)) (or_line line (read_end text))
 
@@ -163,12 +169,12 @@ read_last line text = then_read (nothing_after (line + 1)) (or_line line (read_e
 unfoldable pub read_nodes : {A : Type 0} → (List ℕ → Read A) → ℕ → ℕ → List ℕ → Result (List A) ℕ
 read_nodes read nodes line text = then_read (λ r. then_read (λ _. Ok r.0) (read_last (line + nodes) r.1)) (read_lines read nodes line text)
 
-unfoldable pub read_answer : Kind → ℕ → List CertArc → ℕ → List ℕ → Result Solved ℕ
+unfoldable pub read_answer : CertificateKind → ℕ → List CertArc → ℕ → List ℕ → Result Solved ℕ
 read_answer Kinds.Flow nodes arcs line text = then_read (λ p. Ok (Flow (map (λ a. a.units) arcs) p)) (read_nodes read_potential nodes line text)
 read_answer Kinds.Cut nodes arcs line text = then_read (λ s. Ok (Cut s)) (read_nodes read_side nodes line text)
 
--- the lines behind the second
-unfoldable pub read_body : Kind → Problem → List ℕ → Result Certificate ℕ
+-- the lines after the second
+unfoldable pub read_body : CertificateKind → Problem → List ℕ → Result Certificate ℕ
 read_body kind problem text =
     then_read (λ r. then_read (λ answer. Ok (record { net = net_of problem r.0; answer = answer })) (read_answer kind problem.nodes r.0 (3 + problem.arcs) r.1)) (read_lines (read_arc kind problem.nodes) problem.arcs 3 text)
 

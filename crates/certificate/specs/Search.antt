@@ -1,4 +1,4 @@
--- What the functions that check a certificate look for, over its arcs in code.
+-- Serves private clauses only: what the functions that check a certificate look for, over its arcs in code.
 use Rattle.std.specs.Prelude.{ℕ, Bool, List, ℤ, slice_index_or, pos, sum_by}
 use Rattle.flow_model.specs.Side.{crossing}
 use Rattle.certificate.specs.declared.cert.CertArc.{CertArc}

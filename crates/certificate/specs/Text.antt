@@ -10,29 +10,29 @@ use Rattle.flow_model.specs.Instance.{Net}
 use Rattle.flow_model.specs.Flow.{loads}
 use Rattle.certificate.specs.Certificate.{Certificate}
 
--- numbers in decimal, each behind one space, and the LF
+-- numbers in decimal, each after one space, and the LF
 abbrev pub fields : List ℕ → List ℕ
 fields [] = 10 ∷ []
 fields (n ∷ ns) = 32 ∷ (decimal n ++ fields ns)
 
 -- a line of a word and numbers
-abbrev pub line_of : List ℕ → List ℕ → List ℕ
-line_of word numbers = word ++ fields numbers
+abbrev pub text_line : List ℕ → List ℕ → List ℕ
+text_line word numbers = word ++ fields numbers
 
 unfoldable pub head_line : List ℕ
-head_line = line_of (codes "askrene-certificate") (VERSION ∷ [])
+head_line = text_line (codes "askrene-certificate") (VERSION ∷ [])
 
 abbrev pub kind_of : Solved → List ℕ
 kind_of (Flow flow potentials) = codes "flow"
 kind_of (Cut side) = codes "cut"
 
 unfoldable pub problem_line : Net → Solved → List ℕ
-problem_line net answer = line_of (kind_of answer) (net.nodes ∷ length net.arcs ∷ net.source ∷ net.destination ∷ net.demand ∷ [])
+problem_line net answer = text_line (kind_of answer) (net.nodes ∷ length net.arcs ∷ net.source ∷ net.destination ∷ net.demand ∷ [])
 
 unfoldable pub arc_line : Arc → List ℕ → List ℕ
-arc_line a more = line_of (codes "arc") (a.from ∷ a.to ∷ a.room ∷ a.cost ∷ more)
+arc_line a more = text_line (codes "arc") (a.from ∷ a.to ∷ a.room ∷ a.cost ∷ more)
 
--- an arc's line ends with its flow, where there is a flow
+-- an arc's line ends with its units, if there is a flow
 abbrev pub arc_lines : Net → Solved → List (List ℕ)
 arc_lines net (Flow flow potentials) = map (λ (l : Arc × ℕ). arc_line l.0 (l.1 ∷ [])) (loads net flow)
 arc_lines net (Cut side) = map (λ (a : Arc). arc_line a []) net.arcs
@@ -41,14 +41,14 @@ unfoldable pub potential_line : ℤ → List ℕ
 potential_line p = codes "potential " ++ (signed_decimal p ++ 10 ∷ [])
 
 unfoldable pub side_line : Bool → List ℕ
-side_line on = line_of (codes "side") (cond on 1 0 ∷ [])
+side_line on = text_line (codes "side") (cond on 1 0 ∷ [])
 
 abbrev pub node_lines : Solved → List (List ℕ)
 node_lines (Flow flow potentials) = map potential_line potentials
 node_lines (Cut side) = map side_line side
 
 unfoldable pub end_line : List ℕ
-end_line = line_of (codes "end") []
+end_line = text_line (codes "end") []
 
 abbrev pub certificate_lines : Certificate → List (List ℕ)
 certificate_lines c = head_line ∷ problem_line c.net c.answer ∷ (arc_lines c.net c.answer ++ (node_lines c.answer ++ end_line ∷ []))

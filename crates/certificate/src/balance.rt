@@ -2,15 +2,15 @@ ghost use Rattle.std.specs.Prelude.{◌≡◌, ◌<◌, ◌≤◌, ◌+ℤ◌, �
 ghost use Rattle.certificate.specs.Cert.{Tallies};
 
 use crate::cert::CertArc;
-use crate::limits::MOST_ARCS;
+use crate::limits::CERT_ARCS_MAX;
 use plan_base::NoMemory;
 use std::alloc::Global;
 
-/// For each node what leaves it less what enters it.
+/// For each node, the units that leave it less the units that enter it.
 pub(crate) fn balances(alloc: Global, nodes: usize, arcs: &[CertArc]) -> Result<Vec<i128>, NoMemory>
     requires froms { All (λ a. a.from < nodes) arcs.now }
     requires tos { All (λ a. a.to < nodes) arcs.now }
-    requires few { length arcs.now ≤ MOST_ARCS }
+    requires few { length arcs.now ≤ CERT_ARCS_MAX }
     ensures { IfOk result (λ b. Tallies nodes b.items arcs.now) }
 {
     let mut balances = vec![in alloc; 0; nodes]?;
@@ -18,11 +18,11 @@ pub(crate) fn balances(alloc: Global, nodes: usize, arcs: &[CertArc]) -> Result<
     Ok(balances)
 }
 
-/// Adds the units of each arc where it starts, and takes them where it ends.
+/// Adds the units of each arc to the node that it leaves, and subtracts them from the node that it enters.
 fn tally(balances: &mut [i128], arcs: &[CertArc])
     requires froms { All (λ a. a.from < length balances.old) arcs.now }
     requires tos { All (λ a. a.to < length balances.old) arcs.now }
-    requires few { length arcs.now ≤ MOST_ARCS }
+    requires few { length arcs.now ≤ CERT_ARCS_MAX }
     requires zeros { All (λ z. z ≡ pos 0) balances.old }
     ensures { Tallies (length balances.old) balances.new arcs.now }
 {
@@ -43,7 +43,7 @@ fn raise(balances: &mut [i128], node: u32, units: u64)
     balances[node as usize] += i128::from(units);
 }
 
-/// Takes units from a node's balance.
+/// Subtracts units from a node's balance.
 fn lower(balances: &mut [i128], node: u32, units: u64)
     requires node { node < length balances.old }
     requires fits { pos 0 ≤ℤ (slice_index_or balances.old node (pos 0) +ℤ pos (2 ^ 100)) }

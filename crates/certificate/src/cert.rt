@@ -4,7 +4,7 @@ ghost use Rattle.certificate.specs.Certificate.{potentials_of, potentials_view};
 use crate::problem::Problem;
 use std::marker::Model;
 
-/// An arc of a certificate, with the units that it carries; 0 where the certificate has no flow.
+/// An arc of a certificate, with the units that it carries; 0 if the certificate has no flow.
 #[derive(Clone, Copy, Debug, PartialEq, Eq)]
 pub(crate) struct CertArc {
     pub(crate) from: u32,
@@ -14,10 +14,10 @@ pub(crate) struct CertArc {
     pub(crate) units: u64,
 }
 
-/// What a certificate shows its instance by.
+/// The evidence of a certificate.
 #[derive(Debug, Drop)]
 pub(crate) enum Evidence {
-    /// For each node its potential, and what leaves it less what enters it.
+    /// For each node its potential, and the units that leave it less the units that enter it.
     Potentials {
         potentials: Vec<i128>,
         balances: Vec<i128>,
@@ -55,7 +55,7 @@ impl Model for Cert {
 }
 
 impl Cert {
-    /// The potentials of a flow's certificate, one for each node; None exactly for a cut.
+    /// The potentials of a flow's certificate, one for each node; None if and only if it is a cut's certificate.
     pub fn potentials(&self) -> Option<&[i128]>
         ensures { potentials_view result ≡ potentials_of self.now.answer }
     {

@@ -3,15 +3,15 @@ use std::alloc::{AllocError, AllocFailed};
 use std::error::Error;
 use std::fmt;
 
-/// Why a text isn't read.
+/// Why a text can't be read.
 #[derive(Clone, Copy, Debug, PartialEq, Eq)]
 pub enum CertFault {
     /// The text is no certificate.
     Line {
-        /// The first line, counted from 1, that isn't in the grammar; a line that is missing counts.
+        /// The first line, counted from 1, that isn't in the grammar; a missing line counts.
         line: u64,
     },
-    /// The allocator had no memory.
+    /// Out of memory.
     NoMemory,
 }
 
@@ -62,14 +62,14 @@ impl<T: Drop> From<AllocFailed<T>> for CertFault {
 /// Why an instance has no certificate.
 #[derive(Clone, Copy, Debug, PartialEq, Eq)]
 pub enum CertRefusal {
-    /// There are more arcs or more nodes than a certificate has.
+    /// The instance has too many arcs or nodes for a certificate.
     TooLarge {
-        /// How many arcs the instance has.
+        /// The number of arcs of the instance.
         arcs: u64,
-        /// How many nodes it has.
+        /// The number of nodes of the instance.
         nodes: u64,
     },
-    /// The allocator had no memory.
+    /// Out of memory.
     NoMemory,
 }
 

@@ -1,9 +1,10 @@
-//! Certificates: the text of an instance with a flow and the potentials that show it cheapest, or with a side that
-//! shows that no flow is feasible. They are printed, read back, and checked with no solver.
+//! Prints, reads and checks certificates: texts that prove the result of a cheapest-flow problem: a flow with potentials
+//! that show it cheapest, or a side of the network that shows that no flow is feasible. The check needs no solver.
 #![tactic(auto)]
 
 mod balance;
 mod cert;
+mod digits;
 mod fault;
 mod law;
 mod limits;
@@ -18,8 +19,8 @@ mod verdict;
 
 pub use cert::Cert;
 pub use fault::{CertFault, CertRefusal};
-pub use law::{cut_passes, shown_passes, text_is_read_back};
-pub use limits::{MOST_ARCS, MOST_NODES};
+pub use law::{cut_passes, limit_values, shown_passes, text_is_read_back};
+pub use limits::{CERT_ARCS_MAX, CERT_NODES_MAX};
 pub use print::{print_cut, print_flow};
 pub use reader::read;
 pub use verdict::{Verdict, check};

@@ -1,20 +1,14 @@
 /// The version of the text that is printed and read.
 pub(crate) const VERSION: u64 = 1;
 
-/// The most arcs that a certificate has.
-pub const MOST_ARCS: u64 = 262_144;
+/// The most arcs of a certificate.
+pub const CERT_ARCS_MAX: u64 = 262_144;
 
-/// The most nodes that a certificate has.
-pub const MOST_NODES: u64 = 262_144;
-
-/// The greatest cost of a unit.
-pub(crate) const MOST_COST: u64 = 1_999_999_999_999;
-
-/// The greatest potential, and the greatest with a minus.
-pub(crate) const MOST_POTENTIAL: u128 = 999_999_999_999_999_999_999_999;
+/// The most nodes of a certificate.
+pub const CERT_NODES_MAX: u64 = 262_144;
 
 /// The most digits of an amount.
-pub(crate) const AMOUNT_DIGITS: usize = 19;
+pub(crate) const AMOUNT_DIGITS_MAX: usize = 19;
 
 /// The most digits of a potential.
-pub(crate) const POTENTIAL_DIGITS: usize = 24;
+pub(crate) const POTENTIAL_DIGITS_MAX: usize = 24;

@@ -3,12 +3,13 @@ ghost use Rattle.certificate.specs.Cert.{IsGoodProblem};
 ghost use Rattle.certificate.specs.Reading as Reading;
 
 use crate::cert::CertArc;
-use crate::limits::{MOST_ARCS, MOST_COST, MOST_NODES, VERSION};
+use crate::limits::{AMOUNT_DIGITS_MAX, CERT_ARCS_MAX, CERT_NODES_MAX, VERSION};
 use crate::number::{number, signed};
-use crate::problem::{Kind, Problem};
+use crate::problem::{CertificateKind, Problem};
+use flow_model::COST_MAX;
 use plan_base::MAX;
 
-/// What follows the word at the front.
+/// The text after the word, if the text begins with it.
 #[tactic(auto, unfolding(crate::specs::Reading::read_word))]
 fn word<'a>(text: &'a [u8], word: &[u8]) -> Option<&'a [u8]>
     ensures { Reading.text_view result ≡ Reading.read_word word.now text.now }
@@ -20,7 +21,7 @@ fn word<'a>(text: &'a [u8], word: &[u8]) -> Option<&'a [u8]>
     }
 }
 
-/// What follows the byte at the front.
+/// The text after the byte, if the text begins with it.
 fn byte(text: &[u8], byte: u8) -> Option<&[u8]>
     ensures { Reading.text_view result ≡ Reading.read_byte byte text.now }
 {
@@ -37,7 +38,7 @@ fn field(text: &[u8], most: u64) -> Option<(u64, &[u8])>
     ensures fits { IfSome result (λ r. r.0 ≤ most) }
 {
     let text = byte(text, b' ')?;
-    number(text, most)
+    number(text, AMOUNT_DIGITS_MAX, most)
 }
 
 /// The first line: its word and the version.
@@ -53,14 +54,14 @@ pub(crate) fn head(text: &[u8]) -> Option<&[u8]>
 
 /// The word of the second line.
 #[tactic(auto, unfolding(crate::specs::Reading::read_kind))]
-pub(crate) fn kind(text: &[u8]) -> Option<(Kind, &[u8])>
+pub(crate) fn kind(text: &[u8]) -> Option<(CertificateKind, &[u8])>
     ensures { Reading.read_view result ≡ Reading.read_kind text.now }
 {
     if text.starts_with(b"flow") {
-        return Some((Kind::Flow, &text[4..]));
+        return Some((CertificateKind::Flow, &text[4..]));
     }
     if text.starts_with(b"cut") {
-        return Some((Kind::Cut, &text[3..]));
+        return Some((CertificateKind::Cut, &text[3..]));
     }
     None
 }
@@ -71,8 +72,8 @@ pub(crate) fn problem(text: &[u8]) -> Option<(Problem, &[u8])>
     ensures good { IfSome result (λ r. IsGoodProblem r.0) }
     ensures value { Reading.read_view result ≡ Reading.read_problem text.now }
 {
-    let (nodes, text) = field(text, MOST_NODES)?;
-    let (arcs, text) = field(text, MOST_ARCS)?;
+    let (nodes, text) = field(text, CERT_NODES_MAX)?;
+    let (arcs, text) = field(text, CERT_ARCS_MAX)?;
     let (source, text) = field(text, nodes.saturating_sub(1))?;
     let (destination, text) = field(text, nodes.saturating_sub(1))?;
     let (demand, text) = field(text, MAX)?;
@@ -90,14 +91,14 @@ pub(crate) fn problem(text: &[u8]) -> Option<(Problem, &[u8])>
     Some((problem, text))
 }
 
-/// A kind of line that stands many times in a certificate.
-pub(crate) trait Line {
-    /// What the line says.
+/// A form of line that a certificate has many of.
+pub(crate) trait LineForm {
+    /// The value of a line.
     type Item;
 
     ghost reads: { Self → List ℕ → Option (Self.Item × List ℕ) };
 
-    /// The line at the front, and the text after it.
+    /// The value of the first line, and the text after it.
     fn read<'a>(&self, text: &'a [u8]) -> Option<(Self::Item, &'a [u8])>
         ensures { Reading.read_view result ≡ reads self.now text.now };
 }
@@ -105,7 +106,7 @@ pub(crate) trait Line {
 /// The lines of arcs.
 #[derive(Clone, Copy)]
 pub(crate) struct ArcLine {
-    pub(crate) kind: Kind,
+    pub(crate) kind: CertificateKind,
     pub(crate) nodes: u32,
 }
 
@@ -117,7 +118,7 @@ pub(crate) struct PotentialLine;
 #[derive(Clone, Copy)]
 pub(crate) struct SideLine;
 
-impl Line for ArcLine {
+impl LineForm for ArcLine {
     type Item = CertArc;
 
     ghost reads = { λ l. Reading.read_arc l.kind l.nodes };
@@ -127,7 +128,7 @@ impl Line for ArcLine {
     }
 }
 
-impl Line for PotentialLine {
+impl LineForm for PotentialLine {
     type Item = i128;
 
     ghost reads = { λ _. Reading.read_potential };
@@ -137,7 +138,7 @@ impl Line for PotentialLine {
     }
 }
 
-impl Line for SideLine {
+impl LineForm for SideLine {
     type Item = bool;
 
     ghost reads = { λ _. Reading.read_side };
@@ -147,20 +148,20 @@ impl Line for SideLine {
     }
 }
 
-/// The flow at the end of an arc's line, where there is one.
+/// The units at the end of an arc's line, if the certificate has a flow.
 #[tactic(auto, unfolding(crate::specs::Reading::read_units))]
-fn units(text: &[u8], kind: Kind) -> Option<(u64, &[u8])>
+fn units(text: &[u8], kind: CertificateKind) -> Option<(u64, &[u8])>
     ensures { Reading.read_view result ≡ Reading.read_units kind text.now }
 {
     match kind {
-        Kind::Flow => field(text, MAX),
-        Kind::Cut => Some((0, text)),
+        CertificateKind::Flow => field(text, MAX),
+        CertificateKind::Cut => Some((0, text)),
     }
 }
 
 /// An arc's line.
 #[tactic(auto, unfolding(crate::specs::Reading::read_arc))]
-fn arc(text: &[u8], kind: Kind, nodes: u32) -> Option<(CertArc, &[u8])>
+fn arc(text: &[u8], kind: CertificateKind, nodes: u32) -> Option<(CertArc, &[u8])>
     ensures { Reading.read_view result ≡ Reading.read_arc kind nodes text.now }
 {
     let most = u64::from(nodes).saturating_sub(1);
@@ -168,7 +169,7 @@ fn arc(text: &[u8], kind: Kind, nodes: u32) -> Option<(CertArc, &[u8])>
     let (from, text) = field(text, most)?;
     let (to, text) = field(text, most)?;
     let (room, text) = field(text, MAX)?;
-    let (cost, text) = field(text, MOST_COST)?;
+    let (cost, text) = field(text, COST_MAX)?;
     let (units, text) = units(text, kind)?;
     let text = byte(text, b'\n')?;
     if from == to || room == 0 || cost == 0 {

@@ -9,13 +9,14 @@ ghost use Rattle.certificate.specs.Fault.{IsTooLarge};
 ghost use Rattle.certificate.specs.Text as Text;
 
 use crate::fault::CertRefusal;
-use crate::limits::{MOST_ARCS, MOST_NODES, VERSION};
+use crate::limits::{CERT_ARCS_MAX, CERT_NODES_MAX, VERSION};
 use flow_model::{Arc, Flow, Instance};
 use itoa::Buffer;
 use plan_base::NoMemory;
 use std::alloc::Global;
 
-/// The text of a flow's certificate. `TooLarge` comes exactly where the instance has more than 262,144 arcs or nodes.
+/// The text of a flow's certificate, in ASCII. `TooLarge` is returned if and only if the instance has more than
+/// `CERT_ARCS_MAX` arcs or `CERT_NODES_MAX` nodes.
 pub fn print_flow(
     alloc: Global,
     instance: &Instance,
@@ -27,6 +28,7 @@ pub fn print_flow(
     requires nodes { length potentials.now ≡ instance.now.nodes }
     requires small { All IsSmall potentials.now }
     ensures text { IfOk result (λ t. t.items ≡ Text.certificate_text (flow_certificate instance.now flow.now potentials.now)) }
+    ensures ascii { IfOk result (λ t. All (λ byte. byte < 128) t.items) }
     ensures certificate { OnOk result (IsCertificate (flow_certificate instance.now flow.now potentials.now)) }
     ensures too_large { IfErr result (IsTooLarge instance.now) }
 {
@@ -34,10 +36,12 @@ pub fn print_flow(
     Ok(flow_text(alloc, instance, flow.list(), potentials)?)
 }
 
-/// The text of a cut's certificate. `TooLarge` comes exactly where the instance has more than 262,144 arcs or nodes.
+/// The text of a cut's certificate, in ASCII. `TooLarge` is returned if and only if the instance has more than
+/// `CERT_ARCS_MAX` arcs or `CERT_NODES_MAX` nodes.
 pub fn print_cut(alloc: Global, instance: &Instance, side: &[bool]) -> Result<Vec<u8>, CertRefusal>
     requires { length side.now ≡ instance.now.nodes }
     ensures text { IfOk result (λ t. t.items ≡ Text.certificate_text (cut_certificate instance.now side.now)) }
+    ensures ascii { IfOk result (λ t. All (λ byte. byte < 128) t.items) }
     ensures certificate { OnOk result (IsCertificate (cut_certificate instance.now side.now)) }
     ensures too_large { IfErr result (IsTooLarge instance.now) }
 {
@@ -48,16 +52,16 @@ pub fn print_cut(alloc: Global, instance: &Instance, side: &[bool]) -> Result<Ve
 /// Refuses an instance that is too large.
 fn fits(instance: &Instance) -> Result<(), CertRefusal>
     ensures bounds { IsInstance instance.now }
-    ensures arcs { OnOk result (length instance.now.arcs ≤ MOST_ARCS) }
-    ensures nodes { OnOk result (instance.now.nodes ≤ MOST_NODES) }
+    ensures arcs { OnOk result (length instance.now.arcs ≤ CERT_ARCS_MAX) }
+    ensures nodes { OnOk result (instance.now.nodes ≤ CERT_NODES_MAX) }
     ensures too_large { IfErr result (IsTooLarge instance.now) }
 {
     let arcs = instance.arcs().len() as u64;
     let nodes = u64::from(instance.nodes());
-    if arcs > MOST_ARCS {
+    if arcs > CERT_ARCS_MAX {
         return Err(CertRefusal::TooLarge { arcs, nodes });
     }
-    if nodes > MOST_NODES {
+    if nodes > CERT_NODES_MAX {
         return Err(CertRefusal::TooLarge { arcs, nodes });
     }
     Ok(())
@@ -103,7 +107,7 @@ fn first_line(text: &mut Vec<u8>) -> Result<(), NoMemory>
 
 /// The kind and the numbers of the instance.
 fn problem(text: &mut Vec<u8>, kind: &[u8], instance: &Instance) -> Result<(), NoMemory>
-    ensures { OnOk result (text.new.items ≡ text.old.items ++ Text.line_of kind.now (instance.now.nodes ∷ length instance.now.arcs ∷ instance.now.source ∷ instance.now.destination ∷ instance.now.demand ∷ [])) }
+    ensures { OnOk result (text.new.items ≡ text.old.items ++ Text.text_line kind.now (instance.now.nodes ∷ length instance.now.arcs ∷ instance.now.source ∷ instance.now.destination ∷ instance.now.demand ∷ [])) }
 {
     let nodes = u64::from(instance.nodes());
     let arcs = instance.arcs().len() as u64;
@@ -221,13 +225,13 @@ fn last_line(text: &mut Vec<u8>) -> Result<(), NoMemory>
 
 /// A line of a word and numbers.
 fn line(text: &mut Vec<u8>, word: &[u8], numbers: &[u64]) -> Result<(), NoMemory>
-    ensures { OnOk result (text.new.items ≡ text.old.items ++ Text.line_of word.now numbers.now) }
+    ensures { OnOk result (text.new.items ≡ text.old.items ++ Text.text_line word.now numbers.now) }
 {
     text.extend_from_slice(word)?;
     fields(text, numbers)
 }
 
-/// Numbers, each behind one space, and the LF.
+/// Numbers, each after one space, and the LF.
 #[tactic(auto, using(crate::proofs::Printed::next_field))]
 fn fields(text: &mut Vec<u8>, numbers: &[u64]) -> Result<(), NoMemory>
     ensures { OnOk result (text.new.items ≡ text.old.items ++ Text.fields numbers.now) }

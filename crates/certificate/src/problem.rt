@@ -1,6 +1,6 @@
 /// Whether a certificate has a flow or a cut.
 #[derive(Clone, Copy, Debug, PartialEq, Eq)]
-pub(crate) enum Kind {
+pub(crate) enum CertificateKind {
     Flow,
     Cut,
 }

@@ -8,16 +8,16 @@ ghost use Rattle.certificate.specs.Text.{certificate_text};
 use crate::balance::balances;
 use crate::cert::{Cert, CertArc, Evidence};
 use crate::fault::CertFault;
-use crate::limits::{MOST_ARCS, MOST_NODES};
-use crate::line::{ArcLine, Line, PotentialLine, SideLine, end, head, kind, problem};
-use crate::problem::{Kind, Problem};
+use crate::limits::{CERT_ARCS_MAX, CERT_NODES_MAX};
+use crate::line::{ArcLine, LineForm, PotentialLine, SideLine, end, head, kind, problem};
+use crate::problem::{CertificateKind, Problem};
 use std::alloc::Global;
 
-/// Each line of arcs and of potentials has at least so many bytes.
+/// The fewest bytes of a line of an arc or a potential.
 const SHORTEST_LINE: usize = 12;
 
-/// Reads a certificate. `Line` names the first line that isn't in the grammar, from 1; a line without an LF is
-/// missing, and bytes behind the last line are at the number after it.
+/// Reads a certificate. `Line` is the number, from 1, of the first line that isn't in the grammar. A line without an LF
+/// is missing, and bytes after the last line count as one more line.
 #[tactic(auto, using(crate::proofs::Texts::text_complete, crate::proofs::Texts::text_sound, crate::proofs::Texts::text_failed))]
 pub fn read(alloc: Global, text: &[u8]) -> Result<Cert, CertFault>
     ensures grammar { IfOk result (λ c. IsCertificate c) }
@@ -28,7 +28,7 @@ pub fn read(alloc: Global, text: &[u8]) -> Result<Cert, CertFault>
     read_whole(alloc, text)
 }
 
-/// Reads the lines, one after another.
+/// Reads the lines in order.
 #[tactic(auto, unfolding(crate::specs::Reading::read_text))]
 fn read_whole(alloc: Global, text: &[u8]) -> Result<Cert, CertFault>
     ensures ok { IfOk result (λ c. Reading.read_text text.now ≡ Ok c) }
@@ -46,9 +46,14 @@ fn read_whole(alloc: Global, text: &[u8]) -> Result<Cert, CertFault>
     body(alloc, kind, problem, third)
 }
 
-/// Reads the lines behind the second.
+/// Reads the lines after the second.
 #[tactic(auto, unfolding(crate::specs::Reading::read_body))]
-fn body(alloc: Global, kind: Kind, problem: Problem, text: &[u8]) -> Result<Cert, CertFault>
+fn body(
+    alloc: Global,
+    kind: CertificateKind,
+    problem: Problem,
+    text: &[u8],
+) -> Result<Cert, CertFault>
     requires { IsGoodProblem problem }
     ensures ok { IfOk result (λ c. Reading.read_body kind problem text.now ≡ Ok c) }
     ensures line { IfErr result (λ e. IsLineOf e (Reading.read_body kind problem text.now)) }
@@ -70,7 +75,7 @@ fn body(alloc: Global, kind: Kind, problem: Problem, text: &[u8]) -> Result<Cert
 #[tactic(auto, unfolding(crate::specs::Reading::read_answer))]
 fn evidence(
     alloc: Global,
-    kind: Kind,
+    kind: CertificateKind,
     nodes: u64,
     arcs: &[CertArc],
     line: u64,
@@ -78,15 +83,15 @@ fn evidence(
 ) -> Result<Evidence, CertFault>
     requires froms { All (λ a. a.from < nodes) arcs.now }
     requires tos { All (λ a. a.to < nodes) arcs.now }
-    requires few { length arcs.now ≤ MOST_ARCS }
-    requires nodes { nodes ≤ MOST_NODES }
-    requires line { line ≤ 3 + MOST_ARCS }
+    requires few { length arcs.now ≤ CERT_ARCS_MAX }
+    requires nodes { nodes ≤ CERT_NODES_MAX }
+    requires line { line ≤ 3 + CERT_ARCS_MAX }
     ensures ok { IfOk result (λ e. Reading.read_answer kind nodes arcs.now line text.now ≡ Ok (answer_of arcs.now e)) }
     ensures balances { IfOk result (λ e. HasBalances nodes arcs.now e) }
     ensures line { IfErr result (λ e. IsLineOf e (Reading.read_answer kind nodes arcs.now line text.now)) }
 {
     match kind {
-        Kind::Flow => {
+        CertificateKind::Flow => {
             let potentials = node_lines(alloc, &PotentialLine, nodes, line, text)?;
             let balances = balances(alloc, nodes as usize, arcs)?;
             Ok(Evidence::Potentials {
@@ -94,7 +99,7 @@ fn evidence(
                 balances,
             })
         }
-        Kind::Cut => {
+        CertificateKind::Cut => {
             let side = node_lines(alloc, &SideLine, nodes, line, text)?;
             Ok(Evidence::Side { side })
         }
@@ -103,7 +108,7 @@ fn evidence(
 
 /// Reads a line for each node, and the last line.
 #[tactic(auto, unfolding(crate::specs::Reading::read_nodes))]
-fn node_lines<L: Line>(
+fn node_lines<L: LineForm>(
     alloc: Global,
     reader: &L,
     nodes: u64,
@@ -112,8 +117,8 @@ fn node_lines<L: Line>(
 ) -> Result<Vec<L::Item>, CertFault>
 where
     L::Item: Drop,
-    requires nodes { nodes ≤ MOST_NODES }
-    requires line { line ≤ 3 + MOST_ARCS }
+    requires nodes { nodes ≤ CERT_NODES_MAX }
+    requires line { line ≤ 3 + CERT_ARCS_MAX }
     ensures ok { IfOk result (λ v. Reading.read_nodes (L.reads reader.now) nodes line text.now ≡ Ok v.items) }
     ensures line { IfErr result (λ e. IsLineOf e (Reading.read_nodes (L.reads reader.now) nodes line text.now)) }
 {
@@ -122,7 +127,7 @@ where
     Ok(items)
 }
 
-/// Reads the last line, behind which nothing stands.
+/// Reads the last line, after which the text ends.
 #[tactic(auto, unfolding(crate::specs::Reading::read_last))]
 fn last(text: &[u8], line: u64) -> Result<(), CertFault>
     requires { line < 2 ^ 32 }
@@ -140,7 +145,7 @@ fn last(text: &[u8], line: u64) -> Result<(), CertFault>
 }
 
 /// Reads `count` lines, of which the first has the number `first`.
-fn lines<'a, L: Line>(
+fn lines<'a, L: LineForm>(
     alloc: Global,
     reader: &L,
     count: u64,

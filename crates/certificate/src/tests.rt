@@ -1,4 +1,5 @@
-ghost use Rattle.std.specs.Prelude.{◌≡◌, IfOk, ◌∷◌, []};
+ghost use Rattle.std.specs.Prelude.{◌≡◌, ◌≤◌, IfOk, ◌∷◌, []};
+ghost use Rattle.flow_model.specs.declared.limits.TheConstants.{NODES_MAX};
 
 use crate::{CertFault, CertRefusal, Verdict, check, print_cut, print_flow, read};
 use flow_model::{Arc, Flow, Instance};
@@ -45,7 +46,7 @@ potential 19
 end
 ";
 
-/// Room for 5 units where 6 are asked for.
+/// Room for 5 units when 6 are asked for.
 const CUT: &str = "askrene-certificate 1
 cut 2 1 0 1 6
 arc 0 1 5 1
@@ -54,7 +55,7 @@ side 0
 end
 ";
 
-/// What reading and checking a text came to.
+/// The outcome of reading and checking a text.
 #[derive(Clone, Copy, Debug, PartialEq, Eq)]
 enum Outcome {
     Cheapest,
@@ -78,7 +79,7 @@ fn read_and_check(alloc: Global, text: &[u8]) -> Outcome {
     }
 }
 
-/// A piece of a text, what stands in its place, and what the changed text comes to.
+/// A piece of a text, what replaces it, and the outcome of the changed text.
 type Change = (&'static str, &'static str, Outcome);
 
 /// The first line.
@@ -256,7 +257,7 @@ fn changed(alloc: Global, text: &str, change: Change) -> Result<Outcome, NoMemor
     Ok(read_and_check(alloc, text.as_bytes()))
 }
 
-/// Whether each change of the text comes to what stands beside it.
+/// Whether each change of the text has its outcome.
 fn all_come_to(alloc: Global, text: &str, changes: &[Change]) -> Result<bool, NoMemory> {
     for change in changes {
         if changed(alloc, text, *change)? != change.2 {
@@ -304,10 +305,12 @@ side 0
 end
 ";
 
-/// One arc of direction 7.
-fn one_arc(alloc: Global) -> Result<Instance, NoMemory>
+/// One arc of direction 7, and this many nodes.
+fn one_arc(alloc: Global, nodes: u32) -> Result<Instance, NoMemory>
+    requires some { 2 ≤ nodes }
+    requires few { nodes ≤ NODES_MAX }
     ensures { IfOk result (λ i. i ≡ record {
-      nodes = 2;
+      nodes = nodes;
       source = 0;
       destination = 1;
       demand = 300000;
@@ -328,12 +331,12 @@ fn one_arc(alloc: Global) -> Result<Instance, NoMemory>
         dir: 7,
     };
     let arcs = vec![in alloc; arc]?;
-    Ok(Instance::new(2, 0, 1, 300_000, arcs))
+    Ok(Instance::new(nodes, 0, 1, 300_000, arcs))
 }
 
 #[test]
 fn certificates_are_printed(rt: HostRuntime) -> Result<(), CertRefusal> {
-    let instance = one_arc(rt.alloc())?;
+    let instance = one_arc(rt.alloc(), 2)?;
     let mut units = Vec::new(rt.alloc());
     if units.push(300_000).is_err() {
         return Err(CertRefusal::NoMemory);
@@ -345,5 +348,18 @@ fn certificates_are_printed(rt: HostRuntime) -> Result<(), CertRefusal> {
     let text = print_cut(rt.alloc(), &instance, &[true, false])?;
     assert!(rt; text.as_slice() == ONE_CUT.as_bytes());
     assert!(rt; read_and_check(rt.alloc(), text.as_slice()) == No(2));
+    Ok(())
+}
+
+#[test]
+fn a_large_instance_has_no_certificate(rt: HostRuntime) -> Result<(), NoMemory> {
+    let instance = one_arc(rt.alloc(), 262_145)?;
+    let side = vec![in rt.alloc(); false; 262_145]?;
+    let refusal = print_cut(rt.alloc(), &instance, &side).err();
+    let too_large = CertRefusal::TooLarge {
+        arcs: 1,
+        nodes: 262_145,
+    };
+    assert!(rt; refusal == Some(too_large));
     Ok(())
 }

@@ -7,24 +7,24 @@ ghost use Rattle.certificate.specs.Check as Check;
 ghost use Rattle.certificate.specs.Search.{is_missed_arc, is_over_arc, is_uneven_at, room_left};
 
 use crate::cert::{Cert, CertArc, Evidence};
-use crate::limits::{MOST_ARCS, MOST_NODES};
+use crate::limits::{CERT_ARCS_MAX, CERT_NODES_MAX};
 use crate::problem::Problem;
 use plan_base::MAX;
 
-/// What the check of a certificate says.
+/// The result of the check of a certificate.
 #[derive(Clone, Copy, Debug, PartialEq, Eq)]
 pub enum Verdict {
     /// The flow is cheapest among all feasible flows.
     Cheapest,
     /// No flow is feasible.
     NoFlow,
-    /// The certificate shows nothing; the line of the first failure, counted from 1.
+    /// The certificate shows nothing. `line` is the line of the first failure, counted from 1.
     No { line: u64 },
 }
 
-/// Checks a certificate with no solver, and takes no memory. A flow fails at the first arc that carries more than its
-/// room, else at the first node whose balance isn't what a feasible flow has, else at the first arc that the
-/// potentials don't show. A side fails where it hasn't the source, has the destination, or has too much room leaving.
+/// Checks a certificate without a solver. No memory is taken. A flow fails at the first arc that carries more than its
+/// room, else at the first node whose balance isn't that of a feasible flow, else at the first arc that the potentials
+/// don't show. A side fails if it lacks the source, contains the destination, or too much room leaves it.
 #[tactic(auto, using(crate::proofs::Verdicts::true_verdict))]
 pub fn check(cert: &Cert) -> Verdict
     ensures verdict { result ≡ Check.verdict_of cert.now }
@@ -56,9 +56,9 @@ fn check_flow(
 ) -> Verdict
     requires froms { All (λ a. a.from < problem.now.nodes) arcs.now }
     requires tos { All (λ a. a.to < problem.now.nodes) arcs.now }
-    requires few { length arcs.now ≤ MOST_ARCS }
+    requires few { length arcs.now ≤ CERT_ARCS_MAX }
     requires count { length arcs.now ≡ problem.now.arcs }
-    requires nodes { problem.now.nodes ≤ MOST_NODES }
+    requires nodes { problem.now.nodes ≤ CERT_NODES_MAX }
     requires tallied { Tallies problem.now.nodes balances.now arcs.now }
     requires long { length potentials.now ≡ problem.now.nodes }
     requires small { All IsSmall potentials.now }
@@ -85,7 +85,7 @@ fn first_over(arcs: &[CertArc]) -> Option<usize>
     arcs.iter().position(|arc| arc.units > arc.room)
 }
 
-/// The first node whose balance isn't what a feasible flow has.
+/// The first node whose balance isn't that of a feasible flow.
 #[tactic(auto, using(crate::proofs::Found::below_found, crate::proofs::Found::below_none))]
 fn first_uneven(problem: &Problem, balances: &[i128]) -> Option<usize>
     ensures within { IfSome result (λ v. v < length balances.now) }
@@ -99,7 +99,7 @@ fn first_uneven(problem: &Problem, balances: &[i128]) -> Option<usize>
     None
 }
 
-/// Whether a node's balance isn't what a feasible flow has.
+/// Whether a node's balance isn't that of a feasible flow.
 fn is_uneven(problem: &Problem, balances: &[i128], node: usize) -> bool
     requires { node < length balances.now }
     ensures { result ≡ is_uneven_at problem.now.source problem.now.destination problem.now.demand balances.now node }
@@ -107,7 +107,7 @@ fn is_uneven(problem: &Problem, balances: &[i128], node: usize) -> bool
     balances[node] != due(problem, node as u64)
 }
 
-/// What is to leave a node more than enters it.
+/// How many more units leave a node than enter it in a feasible flow.
 fn due(problem: &Problem, node: u64) -> i128
     ensures { result ≡ Check.due problem.now.source problem.now.destination problem.now.demand node }
 {
@@ -147,21 +147,21 @@ fn is_missed(arc: CertArc, potentials: &[i128]) -> bool
     gains(arc, reduced) || loses(arc, reduced)
 }
 
-/// Whether an arc with room left would gain.
+/// Whether an arc with room left has a reduced cost below 0.
 fn gains(arc: CertArc, reduced: i128) -> bool
     ensures { result ≡ Check.gains arc.units arc.room reduced }
 {
     arc.units < arc.room && reduced < 0
 }
 
-/// Whether an arc with units loses.
+/// Whether an arc that carries units has a reduced cost above 0.
 fn loses(arc: CertArc, reduced: i128) -> bool
     ensures { result ≡ Check.loses arc.units reduced }
 {
     arc.units > 0 && reduced > 0
 }
 
-/// What a unit more over the arc costs, seen from the potentials.
+/// The reduced cost of an arc: its cost and the potential of its start, less the potential of its end.
 fn reduced_cost(arc: CertArc, potentials: &[i128]) -> i128
     requires from { arc.from < length potentials.now }
     requires to { arc.to < length potentials.now }
@@ -176,9 +176,9 @@ fn check_cut(problem: &Problem, arcs: &[CertArc], side: &[bool]) -> Verdict
     requires froms { All (λ a. a.from < problem.now.nodes) arcs.now }
     requires tos { All (λ a. a.to < problem.now.nodes) arcs.now }
     requires rooms { All (λ a. a.room ≤ MAX) arcs.now }
-    requires few { length arcs.now ≤ MOST_ARCS }
+    requires few { length arcs.now ≤ CERT_ARCS_MAX }
     requires count { length arcs.now ≡ problem.now.arcs }
-    requires nodes { problem.now.nodes ≤ MOST_NODES }
+    requires nodes { problem.now.nodes ≤ CERT_NODES_MAX }
     requires source { problem.now.source < problem.now.nodes }
     requires destination { problem.now.destination < problem.now.nodes }
     requires long { length side.now ≡ problem.now.nodes }

@@ -1,11 +1,13 @@
--- What a check finds of a text, and the line that says it.
-use Rattle.std.specs.Prelude.{◌≡◌, ℕ, List, [], ◌∷◌, ◌++◌, decimal, codes, Bool, true, false}
+-- What a check finds of a text, the line that it writes, and how it ends.
+use Rattle.std.specs.Prelude.{◌≡◌, ℕ, List, [], ◌∷◌, ◌++◌, decimal, codes, true, false}
 use Rattle.certificate.specs.Certificate.{Certificate, IsCertificate}
 use Rattle.certificate.specs.Text.{certificate_text}
 use Rattle.certificate.specs.Line.{IsFirstBadLine}
 use Rattle.certificate.specs.Check.{verdict_of, IsTrueOf}
 use Rattle.certificate.specs.declared.verdict.Verdict.{Verdict}
 use Rattle.certificate.specs.declared.verdict.Verdict.TheVariants.{Cheapest, NoFlow, No}
+use Rattle.check_command.specs.declared.end.CheckEnd.{CheckEnd}
+use Rattle.check_command.specs.declared.end.CheckEnd.TheVariants.{Shown, NotShown}
 use Rattle.check_command.specs.declared.finding.Finding.{Finding}
 use Rattle.check_command.specs.declared.finding.Finding.TheVariants.{Checked, Unreadable}
 
@@ -31,12 +33,12 @@ abbrev pub finding_line : Finding → List ℕ
 finding_line (Checked verdict) = verdict_line verdict
 finding_line (Unreadable line) = codes "unreadable " ++ (decimal line ++ 10 ∷ [])
 
--- whether the text shows what it claims
-abbrev pub verdict_shows : Verdict → Bool
-verdict_shows Cheapest = true
-verdict_shows NoFlow = true
-verdict_shows (No line) = false
+-- how a check ends that found this and wrote it
+abbrev pub verdict_end : Verdict → CheckEnd
+verdict_end Cheapest = Shown
+verdict_end NoFlow = Shown
+verdict_end (No line) = NotShown line true
 
-abbrev pub shows : Finding → Bool
-shows (Checked verdict) = verdict_shows verdict
-shows (Unreadable line) = false
+abbrev pub end_of : Finding → CheckEnd
+end_of (Checked verdict) = verdict_end verdict
+end_of (Unreadable line) = NotShown line false

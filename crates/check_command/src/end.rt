@@ -1,16 +1,22 @@
 /// How a check ended.
 #[derive(Clone, Copy, Debug, PartialEq, Eq)]
 pub enum CheckEnd {
-    /// The certificate shows what it claims, which was said.
+    /// The certificate shows what it claims. This was written.
     Shown,
-    /// It doesn't, or the text is no certificate, which was said.
-    NotShown,
-    /// The text is longer than one may be.
+    /// The certificate fails, or the text is no certificate. This was written: `no LINE` if `readable`, else
+    /// `unreadable LINE`.
+    NotShown {
+        /// The line that was written.
+        line: u64,
+        /// Whether the text is a certificate.
+        readable: bool,
+    },
+    /// The text has more than `TEXT_MAX` bytes.
     Long,
     /// A read of the input failed.
     ReadFault,
     /// A write of the output failed.
     WriteFault,
-    /// There was no memory.
+    /// Out of memory.
     NoMemory,
 }

@@ -1,21 +1,22 @@
 ghost use Rattle.std.specs.Prelude.{◌≡◌, IfOk};
-ghost use Rattle.check_command.specs.Finding.{IsFindingOf, finding_line, shows};
+ghost use Rattle.check_command.specs.Finding.{IsFindingOf, end_of, finding_line};
 
+use crate::CheckEnd;
 use certificate::{CertFault, Verdict, check, read};
 use plan_base::NoMemory;
 use std::alloc::Global;
 
-/// What was found of a text.
+/// The result of checking a text.
 #[derive(Clone, Copy, Debug, PartialEq, Eq)]
 pub enum Finding {
-    /// It is a certificate, with this verdict.
+    /// The text is a certificate, with this verdict.
     Checked { verdict: Verdict },
-    /// It is none: the first line, from 1, that isn't in the grammar.
+    /// The text is no certificate; `line` is the first line, from 1, that isn't in the grammar.
     Unreadable { line: u64 },
 }
 
 impl Finding {
-    /// Reads a text and checks it, where it is a certificate.
+    /// Reads a text and, if it is a certificate, checks it.
     pub fn of(alloc: Global, text: &[u8]) -> Result<Finding, NoMemory>
         ensures { IfOk result (IsFindingOf text.now) }
     {
@@ -28,7 +29,7 @@ impl Finding {
         }
     }
 
-    /// The line that says it: `cheapest`, `no-flow`, `no LINE` or `unreadable LINE`, and LF.
+    /// The line that is written: `cheapest`, `no-flow`, `no LINE` or `unreadable LINE`, and LF.
     pub fn line(&self, alloc: Global) -> Result<Vec<u8>, NoMemory>
         ensures { IfOk result (λ line. line.items ≡ finding_line self.now) }
     {
@@ -47,16 +48,22 @@ impl Finding {
         Ok(line.into_bytes())
     }
 
-    /// Whether the text shows what it claims.
-    pub fn shows(&self) -> bool
-        ensures { result ≡ shows self.now }
+    /// How a check with this finding ends, once its line is written.
+    pub fn end(&self) -> CheckEnd
+        ensures { result ≡ end_of self.now }
     {
-        match self {
+        match *self {
             Finding::Checked {
-                verdict: Verdict::No { .. },
-            } => false,
-            Finding::Checked { .. } => true,
-            Finding::Unreadable { .. } => false,
+                verdict: Verdict::No { line },
+            } => CheckEnd::NotShown {
+                line,
+                readable: true,
+            },
+            Finding::Checked { .. } => CheckEnd::Shown,
+            Finding::Unreadable { line } => CheckEnd::NotShown {
+                line,
+                readable: false,
+            },
         }
     }
 }

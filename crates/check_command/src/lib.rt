@@ -1,4 +1,4 @@
-//! `askrened check`: a certificate's text comes in, one line that says what it shows goes out.
+//! The command `askrened check`: reads the text of a certificate and writes one line that says what it shows.
 #![tactic(auto)]
 
 mod command;

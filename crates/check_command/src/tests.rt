@@ -1,63 +1,53 @@
-use crate::{CheckEnd, check};
+use crate::{CheckEnd, TEXT_MAX, check};
 use port_io::{MemSink, MemSource};
 use std::alloc::Global;
 use std::test::Fail;
 
-const CHEAPEST: &str = "askrene-certificate 1
-flow 2 6 0 1 1000000
-arc 0 1 300000 255000000001 300000
-arc 0 1 180000 255000000001 180000
-arc 0 1 120000 255000000001 120000
-arc 0 1 200000 255000000001 200000
-arc 0 1 120000 255000000001 120000
-arc 0 1 80000 255000000001 80000
-potential 0
-potential 255000000001
-end
-";
+/// One arc that carries 5 of its 7 units, with potentials that show it.
+const CHEAPEST: &str =
+    "askrene-certificate 1\nflow 2 1 0 1 5\narc 0 1 7 1 5\npotential 0\npotential 1\nend\n";
 
-const DEARER: &str = "askrene-certificate 1
-flow 2 6 0 1 1000000
-arc 0 1 300000 255000000001 300000
-arc 0 1 180000 255000000001 180000
-arc 0 1 120000 255000000001 120000
-arc 0 1 200000 255000000001 200000
-arc 0 1 120000 255000000001 120000
-arc 0 1 80000 255000000001 80000
-potential 0
-potential 255000000000
-end
-";
+/// The same, with potentials that don't show it.
+const UNSHOWN: &str =
+    "askrene-certificate 1\nflow 2 1 0 1 5\narc 0 1 7 1 5\npotential 0\npotential 2\nend\n";
 
-const CUT_SHORT: &str = "askrene-certificate 1
-flow 2 6 0 1 1000000
-arc 0 1 300000 255000000001 300000
-arc 0 1 180000 255000000001 180000
-arc 0 1 120000 255000000001 120000
-arc 0 1 200000 255000000001 200000
-arc 0 1 120000 255000000001 120000
-arc 0 1 80000 255000000001 80000
-potential 0
-potential 255000000001
-";
+/// The same without its last line.
+const CUT_SHORT: &str =
+    "askrene-certificate 1\nflow 2 1 0 1 5\narc 0 1 7 1 5\npotential 0\npotential 1\n";
 
-const CUT: &str = "askrene-certificate 1
-cut 2 1 0 1 6
-arc 0 1 5 1
-side 1
-side 0
-end
-";
+/// Room for 7 units when 8 are asked for.
+const CUT: &str = "askrene-certificate 1\ncut 2 1 0 1 8\narc 0 1 7 1\nside 1\nside 0\nend\n";
 
 const ROWS: &[(&str, &str, CheckEnd)] = &[
     (CHEAPEST, "cheapest\n", CheckEnd::Shown),
     (CUT, "no-flow\n", CheckEnd::Shown),
-    (DEARER, "no 3\n", CheckEnd::NotShown),
-    (CUT_SHORT, "unreadable 11\n", CheckEnd::NotShown),
-    ("", "unreadable 1\n", CheckEnd::NotShown),
+    (
+        UNSHOWN,
+        "no 3\n",
+        CheckEnd::NotShown {
+            line: 3,
+            readable: true,
+        },
+    ),
+    (
+        CUT_SHORT,
+        "unreadable 6\n",
+        CheckEnd::NotShown {
+            line: 6,
+            readable: false,
+        },
+    ),
+    (
+        "",
+        "unreadable 1\n",
+        CheckEnd::NotShown {
+            line: 1,
+            readable: false,
+        },
+    ),
 ];
 
-// Whether a check of a text, in pieces, ends so and writes this, where the calls that are listed fail.
+/// Whether a check of a text, in pieces, ends so and writes this, if the listed calls fail.
 fn ends(
     alloc: Global,
     text: &str,
@@ -87,5 +77,17 @@ fn faults_are_told(rt: HostRuntime) -> Result<(), Fail> {
     assert!(rt; ends(alloc, CUT, &[1], &[], CheckEnd::ReadFault, "")?);
     assert!(rt; ends(alloc, CUT, &[], &[0], CheckEnd::WriteFault, "")?);
     assert!(rt; ends(alloc, CUT, &[], &[1], CheckEnd::WriteFault, "no-f")?);
+    Ok(())
+}
+
+#[test]
+fn a_long_text_is_refused(rt: HostRuntime) -> Result<(), Fail> {
+    let alloc = rt.alloc();
+    let text = vec![in alloc; b'x'; TEXT_MAX + 1]?;
+    let mut source = MemSource::new(text, 65_536, Vec::new(alloc));
+    let mut sink = MemSink::new(alloc, 4, Vec::new(alloc));
+    let end = check(alloc, &mut source, &mut sink);
+    assert!(rt; end == CheckEnd::Long);
+    assert!(rt; sink.bytes().is_empty());
     Ok(())
 }

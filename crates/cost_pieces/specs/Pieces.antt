@@ -1,15 +1,15 @@
 -- The rooms of a direction's pieces.
 use Rattle.std.specs.Prelude.{ℕ, ◌+◌, ◌-◌, ◌*◌, ◌/◌, List, [], ◌∷◌, map, min}
 
--- the cut points of known liquidity between lo and hi, in units: none, the known minimum, five and eight tenths of the
--- way to the known maximum, and that
+-- the cut points of the known liquidity between lo and hi, in units: 0, the known minimum, five and eight tenths of the
+-- way to the known maximum, and the known maximum
 abbrev pub cut_points : ℕ → ℕ → ℕ → List ℕ
 cut_points lo hi unit =
     let least = lo / unit in
     let most = hi / unit in
     0 ∷ least ∷ (least + (most - least) * 5 / 10) ∷ (least + (most - least) * 8 / 10) ∷ most ∷ []
 
--- how far each point is from the one before it
+-- the distance of each point from the one before it
 abbrev pub steps : List ℕ → List ℕ
 steps [] = []
 steps (a ∷ []) = []

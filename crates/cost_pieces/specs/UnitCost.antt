@@ -3,7 +3,7 @@ use Rattle.std.specs.Prelude.{ℕ, ◌+◌, ◌-◌, ◌*◌, ◌/◌, ◌^◌, 
 use Rattle.cost_pieces.specs.declared.unit.Terms.{Terms}
 use Rattle.cost_pieces.specs.Scale.{slope_of, delay_factor}
 
--- the uncertainty of a piece, steeper where less is known to be there, at most 10^9
+-- the uncertainty of a piece: its slope over the width of the known bounds, at most 10^9
 abbrev pub uncertainty_of : ℕ → ℕ → ℕ → ℕ
 uncertainty_of piece lo hi = min (10 ^ 9) (slope_of piece * 10 ^ 12 / max 1 (hi - lo))
 
@@ -15,7 +15,7 @@ fee_weight_of base ppm amount = min (10 ^ 9) (100 * ppm + base * 10 ^ 8 / amount
 abbrev pub biased : ℤ → ℕ
 biased bias = nat_abs (pos 100 -ℤ bias)
 
--- uncertainty, fee and delay weighed by the levels, less the bias, and 1
+-- uncertainty, fee and delay, weighed by the levels, then the bias, and 1 more
 abbrev pub unit_cost_of : ℕ → Terms → ℕ → ℕ → ℕ
 unit_cost_of piece t fee_level delay_level =
     let m = 2 ^ fee_level in

@@ -1,5 +1,5 @@
-//! What a unit over a channel costs: its known liquidity is cut into pieces, each of which has a room and a slope of
-//! uncertainty (after Pickhardt and Richter 2021, in whole numbers of this project's own), weighed against its fee.
+//! The cost of sending a unit over a channel: the known liquidity is cut into pieces, each with a room and a slope of
+//! uncertainty (after Pickhardt and Richter 2021, in this project's own whole numbers), weighed against the fee.
 #![tactic(auto)]
 
 mod room;

@@ -18,7 +18,7 @@ pub(crate) fn slope(piece: u8) -> u64
     }
 }
 
-/// How much a block of delay weighs at a delay level.
+/// The weight of a block of delay at a delay level.
 pub(crate) fn delay_weight(level: u8) -> u64
     requires { level ≤ 5 }
     ensures value { result ≡ delay_factor level }

@@ -1,11 +1,12 @@
-ghost use Rattle.std.specs.Prelude.{◌≡◌, ◌+◌, ◌*◌, ◌^◌, ◌<◌, ◌≤◌, ◌≤ℤ◌, pos, negsuc};
+ghost use Rattle.std.specs.Prelude.{ℕ, ◌≡◌, ◌+◌, ◌*◌, ◌^◌, ◌<◌, ◌≤◌, ◌≤ℤ◌, pos, negsuc};
 ghost use Rattle.plan_base.specs.declared.amount.TheConstants.{MAX};
+ghost use Rattle.flow_model.specs.declared.limits.TheConstants.{COST_MAX};
 ghost use Rattle.cost_pieces.specs.Scale.{delay_factor};
 ghost use Rattle.cost_pieces.specs.UnitCost.{biased, fee_weight_of, uncertainty_of, unit_cost_of};
 
 use crate::scale::{PIECES, delay_weight, slope};
 
-/// What a direction's cost is made of: known bounds in msat, base fee in msat and proportional fee in ppm, delay in
+/// What the cost of a direction depends on: known bounds in msat, base fee in msat and proportional fee in ppm, delay in
 /// blocks, bias from -100 to 100, and the asked amount in msat.
 #[derive(Clone, Copy, Debug, PartialEq, Eq)]
 pub struct Terms {
@@ -18,8 +19,8 @@ pub struct Terms {
     pub amount: u64,
 }
 
-/// The cost of one unit over a piece, at a fee level from 0 to 8 and a delay level from 0 to 5. It is at least 1 and
-/// below 2 * 10^12. No memory is taken.
+/// The cost of one unit over a piece, at a fee level from 0 to 8 and a delay level from 0 to 5. It is from 1 to
+/// `COST_MAX`, and never falls from piece to piece. No memory is taken.
 pub fn unit_cost(piece: u8, terms: &Terms, fee_level: u8, delay_level: u8) -> u64
     requires piece { piece < PIECES }
     requires order { terms.now.lo ≤ terms.now.hi }
@@ -31,7 +32,8 @@ pub fn unit_cost(piece: u8, terms: &Terms, fee_level: u8, delay_level: u8) -> u6
     requires delay_level { delay_level ≤ 5 }
     ensures value { result ≡ unit_cost_of piece terms.now fee_level delay_level }
     ensures least { 1 ≤ result }
-    ensures bound { result < 2 * 10 ^ 12 }
+    ensures most { result ≤ COST_MAX }
+    ensures rises { (later : ℕ) → piece ≤ later → later < PIECES → unit_cost_of piece terms.now fee_level delay_level ≤ unit_cost_of later terms.now fee_level delay_level }
 {
     let weight = fee_weight(fee_level);
     let uncertain = uncertainty(piece, terms.lo, terms.hi) * (256 - weight);
@@ -40,7 +42,7 @@ pub fn unit_cost(piece: u8, terms: &Terms, fee_level: u8, delay_level: u8) -> u6
     (uncertain + fee + delay) * hundredths(terms.bias) / 100 + 1
 }
 
-/// How much of 256 the fee weighs at a fee level.
+/// The weight of the fee at a fee level, of 256.
 fn fee_weight(level: u8) -> u64
     requires { level ≤ 8 }
     ensures value { result ≡ 2 ^ level }

@@ -10,19 +10,19 @@ abbrev pub carried_before : List Hop → ℕ → ℕ
 carried_before [] delivered = delivered
 carried_before (next ∷ later) delivered = next.amount
 
--- the delay behind a hop is the next one's, and behind the last hop the final one
-abbrev pub delay_behind : List Hop → ℕ → ℕ
-delay_behind [] final_cltv = final_cltv
-delay_behind (next ∷ later) final_cltv = next.delay
+-- the delay after a hop is the next hop's, and after the last hop the final one
+abbrev pub delay_after : List Hop → ℕ → ℕ
+delay_after [] final_cltv = final_cltv
+delay_after (next ∷ later) final_cltv = next.delay
 
--- a hop asks for what it carries and its own channel's fee, cut to one above the greatest amount
+-- a hop asks for what it carries and its own channel's fee, cut to MAX + 1
 abbrev pub hop_of : Toll → ℕ → ℕ → Hop
 hop_of toll carried delay = record { carried = carried; amount = min (MAX + 1) (carried + fee_on carried toll.base toll.ppm); delay = delay + toll.delay }
 
 abbrev pub hop_before : Toll → List Hop → ℕ → ℕ → Hop
-hop_before toll later delivered final_cltv = hop_of toll (carried_before later delivered) (delay_behind later final_cltv)
+hop_before toll later delivered final_cltv = hop_of toll (carried_before later delivered) (delay_after later final_cltv)
 
--- a hop for each toll, made from the hops behind it
+-- a hop for each toll, made from the hops after it
 abbrev pub amounts_of : List Toll → ℕ → ℕ → List Hop
 amounts_of [] delivered final_cltv = []
 amounts_of (toll ∷ tolls) delivered final_cltv = hop_before toll (amounts_of tolls delivered final_cltv) delivered final_cltv ∷ amounts_of tolls delivered final_cltv

@@ -5,7 +5,7 @@ ghost use Rattle.fee_backward.specs.Hop.{amounts_of, hop_of};
 use plan_base::{MAX, NoMemory, Toll, add_fee};
 use std::alloc::Global;
 
-/// What a hop carries and what it asks for, in msat, and its delay in blocks.
+/// A hop: the amount that it carries and the amount that it asks for, in msat, and its delay in blocks.
 #[derive(Clone, Copy, Debug, PartialEq, Eq)]
 pub struct Hop {
     pub carried: u64,
@@ -13,9 +13,9 @@ pub struct Hop {
     pub delay: u64,
 }
 
-/// The hops of a path over channels with these tolls. The last hop carries what is delivered, and each earlier one
-/// what the next asks for: what that one carries and its own channel's fee, cut to one msat above `MAX`. A hop's delay
-/// is `final_cltv` and the delays of it and of all later hops (BOLT 7).
+/// The hops of a path over channels with these tolls. The last hop carries what is delivered, and each earlier hop
+/// carries what the next one asks for. A hop asks for what it carries and its own channel's fee, cut to `MAX` + 1 msat.
+/// Its delay is `final_cltv` and the sum of the delays of it and of all later hops (BOLT 7).
 pub fn hops(
     alloc: Global,
     tolls: &[Toll],
@@ -40,7 +40,7 @@ pub fn hops(
     Ok(hops)
 }
 
-/// The hop that carries this amount, before this delay.
+/// The hop that carries this amount and comes before hops of this delay.
 fn hop_over(toll: Toll, carried: u64, delay: u64) -> Hop
     requires { delay < 2 ^ 63 }
     ensures hop { result ≡ hop_of toll carried delay }

@@ -1,5 +1,5 @@
-//! What each hop of a path carries and asks for, from the last hop backward: fees by BOLT 7, and delays that sum up
-//! behind a hop.
+//! The amount and delay of each hop of a path, from the last hop backward: fees by BOLT 7, and the sum of the delays
+//! from each hop to the end.
 #![tactic(auto)]
 
 mod hop;

@@ -18,8 +18,8 @@ entering v ls = sum_by (λ (l : Arc × ℕ). cond (nat_eq l.0.to v) l.1 0) ls
 abbrev pub Fits : Net → List ℕ → Type 0
 Fits net flow = All (λ (l : Arc × ℕ). l.1 ≤ l.0.room) (loads net flow)
 
--- the flow sends this many units from the source to the destination: one number for each arc, within its room;
--- what enters any other node leaves it, and from the source so many units more leave than enter
+-- the flow sends this many units from the source to the destination: it has one number for each arc, within its room;
+-- what enters any other node leaves it, and this many more units leave the source than enter it
 pub record Sends (net : Net) (flow : List ℕ) (units : ℕ) : Type 0 where
   pub long : length flow ≡ length net.arcs
   pub fits : Fits net flow
@@ -55,6 +55,6 @@ flow_of units (a ∷ arcs) = min a.room (units a.dir) ∷ flow_of (λ dir. units
 abbrev pub IsFilledInOrder : Net → List ℕ → Type 0
 IsFilledInOrder net flow = flow ≡ flow_of (λ dir. units_of dir (loads net flow)) net.arcs
 
--- where the later of two arcs of one direction carries anything, the earlier one is full
+-- if the later of two arcs of one direction carries anything, the earlier one is full
 abbrev pub FillsFirst : Arc × ℕ → Arc × ℕ → Type 0
 FillsFirst l m = l.0.dir ≡ m.0.dir → 0 < m.1 → l.1 ≡ l.0.room

@@ -5,11 +5,11 @@ use Rattle.flow_model.specs.Flow.{IsFeasible, IsCheapest, IsFilledInOrder, Fills
 use Rattle.flow_model.specs.Potentials.{ShowsCheapest}
 use Rattle.flow_model.specs.Side.{Cuts}
 
--- a flow that potentials show is cheapest
+-- a flow is cheapest if potentials show it
 abbrev pub ShownIsCheapest : Type 0
 ShownIsCheapest = (net : Net) (flow : List ℕ) (p : List ℤ) → IsNet net → ShowsCheapest net flow p → IsCheapest net flow
 
--- where a side cuts the source off, no flow is feasible
+-- if a side cuts the source off, no flow is feasible
 abbrev pub CutHasNoFlow : Type 0
 CutHasNoFlow = (net : Net) (side : List Bool) (flow : List ℕ) → IsNet net → Cuts net side → IsFeasible net flow → ⊥
 

@@ -1,4 +1,4 @@
--- Sides: some of the nodes, which can show that no flow is feasible.
+-- Sides: a side is some of the nodes. It can show that no flow is feasible.
 use Rattle.std.specs.Prelude.{ℕ, ◌<◌, ◌≡◌, List, length, sum_by, cond, not, ◌&&◌, Bool, true, false, slice_index_or}
 use Rattle.flow_model.specs.declared.instance.Arc.{Arc}
 use Rattle.flow_model.specs.Instance.{Net}
@@ -11,9 +11,13 @@ on_side side v = slice_index_or side v false
 abbrev pub crossing : List Bool → Arc → ℕ
 crossing side a = cond (on_side side a.from && not (on_side side a.to)) a.room 0
 
--- the side holds the source and not the destination, and the rooms that leave it are less than the demand
+-- the room of the arcs that leave the side
+abbrev pub room_leaving : List Bool → List Arc → ℕ
+room_leaving side arcs = sum_by (crossing side) arcs
+
+-- the side contains the source and not the destination, and the room that leaves it is less than the demand
 pub record Cuts (net : Net) (side : List Bool) : Type 0 where
   pub long : length side ≡ net.nodes
   pub source_on : on_side side net.source ≡ true
   pub destination_off : on_side side net.destination ≡ false
-  pub small : sum_by (crossing side) net.arcs < net.demand
+  pub small : room_leaving side net.arcs < net.demand

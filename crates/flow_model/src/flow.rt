@@ -21,7 +21,7 @@ impl Model for Flow {
 }
 
 impl Flow {
-    /// The flow with these units; no memory is taken.
+    /// The flow with these units. No memory is taken.
     pub fn from_vec(units: Vec<u64>) -> Flow
         ensures { result ≡ units.items }
     {
@@ -57,11 +57,12 @@ fn sum_of_costs(arcs: &[Arc], units: &[u64]) -> u128
         .sum()
 }
 
-/// The flow that fills each direction's units into its arcs in order; `units` has a number for each direction.
+/// The flow that fills each direction's units into its arcs in order. `units` has a number for each direction.
 pub fn fill(alloc: Global, instance: &Instance, units: &[u64]) -> Result<Flow, NoMemory>
     requires known { All (λ a. a.dir < length units.now) instance.now.arcs }
     requires room { (d : ℕ) → d < length units.now → slice_index units.now d ≤ room_of d instance.now.arcs }
     ensures value { IfOk result (λ f. f ≡ flow_of (slice_index units.now) instance.now.arcs) }
+    ensures long { IfOk result (λ f. length f ≡ length instance.now.arcs) }
     ensures fits { IfOk result (λ f. Fits instance.now f) }
     ensures in_order { IfOk result (λ f. IsFilledInOrder instance.now f) }
     ensures units { IfOk result (λ f. (d : ℕ) → d < length units.now → units_of d (loads instance.now f) ≡ slice_index units.now d) }

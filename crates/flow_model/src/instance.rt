@@ -3,8 +3,8 @@ ghost use Rattle.flow_model.specs.Instance.{Net, IsInstance};
 
 use std::marker::Model;
 
-/// One piece of a direction: it leads from one node to another, holds up to `room` units, and each costs `cost`.
-/// `dir` is the place of its direction in the view.
+/// One piece of a direction: it leads from one node to another, has room for `room` units, and each unit costs `cost`.
+/// `dir` is the index of its direction in the view.
 #[derive(Clone, Copy, Debug, PartialEq, Eq)]
 pub struct Arc {
     pub from: u32,
@@ -14,9 +14,9 @@ pub struct Arc {
     pub dir: u32,
 }
 
-/// A problem of a cheapest flow, within the bounds that `IsInstance` names: at most 2^24 nodes and fewer than 2^26
-/// arcs, whose ends are nodes; rooms and demand of 1 to `MAX` units, costs of 1 to 2 * 10^12 - 1; the arcs of one
-/// direction together, with equal ends and costs that never fall.
+/// A problem of a cheapest flow, within the bounds of `IsInstance`: at most `NODES_MAX` nodes and `ARCS_MAX` arcs, whose
+/// ends are nodes; rooms and demand of 1 to `MAX` units, costs of 1 to `COST_MAX`; the arcs of one direction are
+/// together, with equal ends and costs that never fall.
 #[derive(Debug, Drop)]
 pub struct Instance {
     nodes: u32,
@@ -49,7 +49,7 @@ impl Model for Instance {
 }
 
 impl Instance {
-    /// The instance of these numbers and arcs, which have to be within its bounds; no memory is taken.
+    /// The instance of these numbers and arcs. No memory is taken.
     pub fn new(nodes: u32, source: u32, destination: u32, demand: u64, arcs: Vec<Arc>) -> Instance
         requires { IsInstance (record {
           nodes = nodes;
@@ -97,7 +97,7 @@ impl Instance {
         self.destination
     }
 
-    /// The units to be sent.
+    /// How many units are to be sent.
     pub fn demand(&self) -> u64
         ensures { result ≡ self.now.demand }
     {

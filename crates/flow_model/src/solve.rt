@@ -17,10 +17,10 @@ pub enum Solved {
     Cut { side: Items<bool> },
 }
 
-/// A solver of instances. It answers a flow exactly where one is feasible.
+/// A solver of instances. It returns a flow if and only if one is feasible.
 pub trait Solve {
-    /// A cheapest flow, which fills each direction's arcs in order, with potentials below 10^24 in absolute value; or
-    /// a side, where no flow is feasible.
+    /// A cheapest flow, which fills each direction's arcs in order, with potentials of at most `POTENTIAL_MAX` in
+    /// absolute value; or a side, if no flow is feasible.
     fn solve(&self, alloc: Global, instance: &Instance) -> Result<Solved, NoMemory>
         ensures cheapest { IfOk result (λ s. IfFlow s (λ flow p. IsCheapest instance.now flow)) }
         ensures in_order { IfOk result (λ s. IfFlow s (λ flow p. IsFilledInOrder instance.now flow)) }

@@ -1,8 +1,9 @@
--- How much a layer favours a direction.
-use Rattle.std.specs.Prelude.{pos, negsuc, ◌≤ℤ◌}
+-- Preferences for or against directions.
+use Rattle.std.specs.Prelude.{◌≤ℤ◌}
+use Rattle.layer.specs.declared.records.TheConstants.{BIAS_MIN, BIAS_MAX}
 use Rattle.layer.specs.declared.records.Bias.{Bias}
 
--- from -100 to 100 percent
+-- from BIAS_MIN to BIAS_MAX percent
 pub record IsGoodBias (bias : Bias) : Type 0 where
-  pub low : negsuc 99 ≤ℤ bias.bias
-  pub high : bias.bias ≤ℤ pos 100
+  pub low : BIAS_MIN ≤ℤ bias.bias
+  pub high : bias.bias ≤ℤ BIAS_MAX

@@ -1,4 +1,4 @@
--- What a layer knows of a direction's liquidity.
+-- Bounds on the liquidity of directions.
 use Rattle.std.specs.Prelude.{ℕ, ◌≤◌, nat_le, List, filter}
 use Rattle.plan_base.specs.declared.amount.TheConstants.{MAX}
 use Rattle.layer.specs.declared.records.Constraint.{Constraint}
@@ -7,6 +7,6 @@ use Rattle.layer.specs.declared.records.Constraint.{Constraint}
 abbrev pub IsGoodConstraint : Constraint → Type 0
 IsGoodConstraint constraint = constraint.amount ≤ MAX
 
--- the constraints that were learnt at the cutoff or later, in order
+-- the constraints from the cutoff or later, in order
 abbrev pub since : ℕ → List Constraint → List Constraint
 since cutoff constraints = filter (λ constraint. nat_le cutoff constraint.moment) constraints

@@ -1,4 +1,4 @@
--- How a layer keeps its five lists.
+-- Serves private clauses only: how the fields of a layer are its five lists.
 use Rattle.layer.specs.Layer.{LayerLists}
 use Rattle.layer.specs.declared.layer.Layer.TheInside.{Inside}
 

@@ -22,13 +22,13 @@ abbrev pub no_lists : LayerLists
 no_lists = record { created = []; updates = []; constraints = []; biases = []; disabled = [] }
 
 -- how many entries the five lists have together
-abbrev pub entries_of : LayerLists → ℕ
-entries_of lists = length lists.created + length lists.updates + length lists.constraints + length lists.biases + length lists.disabled
+abbrev pub count_entries : LayerLists → ℕ
+count_entries lists = length lists.created + length lists.updates + length lists.constraints + length lists.biases + length lists.disabled
 
--- what each layer keeps: all that it holds is good, and it isn't too long
+-- the invariant of a layer: its entries are good, and there are at most ENTRIES_MAX of them
 pub record IsGoodLayer (lists : LayerLists) : Type 0 where
   pub created : All IsGoodCreated lists.created
   pub updates : All IsGoodUpdate lists.updates
   pub constraints : All IsGoodConstraint lists.constraints
   pub biases : All IsGoodBias lists.biases
-  pub few : entries_of lists ≤ ENTRIES_MAX
+  pub few : count_entries lists ≤ ENTRIES_MAX

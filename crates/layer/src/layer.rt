@@ -1,17 +1,17 @@
-ghost use Rattle.std.specs.Prelude.{◌≡◌, ◌+◌, ◌<◌, ◌≤◌, [], ◌∷◌, ◌++◌, length, slice_set, All, IfOk, OnOk, OnErr};
+ghost use Rattle.std.specs.Prelude.{◌≡◌, ◌+◌, ◌<◌, ◌≤◌, [], ◌∷◌, ◌++◌, length, slice_set, pos, negsuc, All, IfOk, OnOk, OnErr};
 ghost use Rattle.layer.specs.Created.{IsGoodCreated};
 ghost use Rattle.layer.specs.Update.{IsGoodUpdate};
 ghost use Rattle.layer.specs.Constraint.{IsGoodConstraint, since};
 ghost use Rattle.layer.specs.Bias.{IsGoodBias};
-ghost use Rattle.layer.specs.Layer.{LayerLists, no_lists, entries_of};
+ghost use Rattle.layer.specs.Layer.{LayerLists, no_lists, count_entries};
 
-use crate::{Bias, Constraint, Created, ENTRIES_MAX, Update};
+use crate::{BIAS_MAX, BIAS_MIN, Bias, Constraint, Created, ENTRIES_MAX, Update};
 use plan_base::{NoMemory, NodeId};
 use std::alloc::Global;
 use std::marker::Model;
 
 /// A layer of knowledge about channels: created channels, updates, constraints, biases and disabled nodes.
-/// It keeps that all of them are good, and that they are at most `ENTRIES_MAX` together.
+/// All entries are good, and there are at most `ENTRIES_MAX` of them together.
 #[derive(Debug, Drop)]
 pub struct Layer {
     alloc: Global,
@@ -35,9 +35,11 @@ impl Model for Layer {
 }
 
 impl Layer {
-    /// An empty layer; no memory is taken.
+    /// An empty layer. Allocates nothing.
     pub fn new(alloc: Global) -> Layer
-        ensures { result ≡ no_lists }
+        ensures empty { result ≡ no_lists }
+        ensures limit { ENTRIES_MAX ≡ 65536 }
+        ensures bias_limits { (BIAS_MIN ≡ negsuc 99) × (BIAS_MAX ≡ pos 100) }
     {
         Layer {
             alloc,
@@ -79,7 +81,7 @@ impl Layer {
         &self.updates
     }
 
-    /// The constraints, in the order in which they were learnt.
+    /// The constraints, in the order in which they were added.
     pub fn constraints(&self) -> &[Constraint]
         ensures list { result.now ≡ self.now.constraints }
         ensures good { All IsGoodConstraint self.now.constraints }
@@ -104,8 +106,8 @@ impl Layer {
 
     /// How many entries the five lists have together.
     pub fn entries(&self) -> usize
-        ensures value { result ≡ entries_of self.now }
-        ensures few { entries_of self.now ≤ ENTRIES_MAX }
+        ensures value { result ≡ count_entries self.now }
+        ensures few { count_entries self.now ≤ ENTRIES_MAX }
     {
         self.created.len()
             + self.updates.len()
@@ -114,10 +116,10 @@ impl Layer {
             + self.disabled.len()
     }
 
-    /// Adds a created channel at the end. An `Err` leaves the layer as it was, here and in the calls below.
+    /// Appends a created channel. If this call or one of those below returns an `Err`, the layer is unchanged.
     pub fn push_created(&mut self, channel: Created) -> Result<(), NoMemory>
         requires good { IsGoodCreated channel }
-        requires room { entries_of self.old < ENTRIES_MAX }
+        requires room { count_entries self.old < ENTRIES_MAX }
         ensures ok { OnOk result (self.new ≡ record self.old { created = self.old.created ++ channel ∷ [] }) }
         ensures err { OnErr result (self.new ≡ self.old) }
     {
@@ -125,10 +127,10 @@ impl Layer {
         Ok(())
     }
 
-    /// Adds an update at the end.
+    /// Appends an update.
     pub fn push_update(&mut self, change: Update) -> Result<(), NoMemory>
         requires good { IsGoodUpdate change }
-        requires room { entries_of self.old < ENTRIES_MAX }
+        requires room { count_entries self.old < ENTRIES_MAX }
         ensures ok { OnOk result (self.new ≡ record self.old { updates = self.old.updates ++ change ∷ [] }) }
         ensures err { OnErr result (self.new ≡ self.old) }
     {
@@ -136,10 +138,10 @@ impl Layer {
         Ok(())
     }
 
-    /// Adds a constraint at the end.
+    /// Appends a constraint.
     pub fn push_constraint(&mut self, constraint: Constraint) -> Result<(), NoMemory>
         requires good { IsGoodConstraint constraint }
-        requires room { entries_of self.old < ENTRIES_MAX }
+        requires room { count_entries self.old < ENTRIES_MAX }
         ensures ok { OnOk result (self.new ≡ record self.old { constraints = self.old.constraints ++ constraint ∷ [] }) }
         ensures err { OnErr result (self.new ≡ self.old) }
     {
@@ -147,10 +149,10 @@ impl Layer {
         Ok(())
     }
 
-    /// Adds a bias at the end.
+    /// Appends a bias.
     pub fn push_bias(&mut self, bias: Bias) -> Result<(), NoMemory>
         requires good { IsGoodBias bias }
-        requires room { entries_of self.old < ENTRIES_MAX }
+        requires room { count_entries self.old < ENTRIES_MAX }
         ensures ok { OnOk result (self.new ≡ record self.old { biases = self.old.biases ++ bias ∷ [] }) }
         ensures err { OnErr result (self.new ≡ self.old) }
     {
@@ -158,9 +160,9 @@ impl Layer {
         Ok(())
     }
 
-    /// Adds a disabled node at the end.
+    /// Appends a disabled node.
     pub fn push_disabled(&mut self, node: NodeId) -> Result<(), NoMemory>
-        requires { entries_of self.old < ENTRIES_MAX }
+        requires { count_entries self.old < ENTRIES_MAX }
         ensures ok { OnOk result (self.new ≡ record self.old { disabled = self.old.disabled ++ node ∷ [] }) }
         ensures err { OnErr result (self.new ≡ self.old) }
     {
@@ -168,7 +170,7 @@ impl Layer {
         Ok(())
     }
 
-    /// Puts an update in the place of another.
+    /// Replaces the update at a position.
     pub fn set_update(&mut self, place: usize, change: Update) -> Result<(), NoMemory>
         requires good { IsGoodUpdate change }
         requires place { place < length self.old.updates }
@@ -179,7 +181,7 @@ impl Layer {
         Ok(())
     }
 
-    /// Puts a bias in the place of another.
+    /// Replaces the bias at a position.
     pub fn set_bias(&mut self, place: usize, bias: Bias) -> Result<(), NoMemory>
         requires good { IsGoodBias bias }
         requires place { place < length self.old.biases }
@@ -190,8 +192,8 @@ impl Layer {
         Ok(())
     }
 
-    /// Removes the constraints that were learnt before the cutoff, a moment in seconds, and tells how many went. The others
-    /// keep their order. No memory is taken.
+    /// Removes the constraints from before the cutoff, a time in Unix seconds, and returns how many it removed. The others
+    /// keep their order. Allocates nothing.
     #[tactic(auto, using(crate::proofs::Kept::good_since))]
     pub fn drop_before(&mut self, cutoff: u64) -> u32
         ensures kept { self.new ≡ record self.old { constraints = since cutoff self.old.constraints } }

@@ -1,5 +1,6 @@
-//! Layers of knowledge about channels, each seen as five lists of good entries, and their names.
-//! A layer holds what callers told: channels that they create, changed fields, liquidity bounds, biases, disabled nodes.
+//! Layers of knowledge about channels, and their names.
+//! A layer holds what callers report: created channels, changed fields, liquidity bounds, biases and disabled nodes.
+//! Contracts see a layer as five lists of good entries.
 #![tactic(auto)]
 
 mod layer;
@@ -7,8 +8,8 @@ mod name;
 mod records;
 
 pub use layer::Layer;
-pub use name::{Name, NameFault};
-pub use records::{Bias, Bound, Constraint, Created, ENTRIES_MAX, Update};
+pub use name::{NAME_MAX, Name, NameFault};
+pub use records::{BIAS_MAX, BIAS_MIN, Bias, Bound, Constraint, Created, ENTRIES_MAX, Update};
 
 #[cfg(test)]
 mod tests;

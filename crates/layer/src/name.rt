@@ -1,4 +1,4 @@
-ghost use Rattle.std.specs.Prelude.{◌≡◌, ◌↔◌, true, false, nat_eq, IfOk, IsErrOf};
+ghost use Rattle.std.specs.Prelude.{◌≡◌, ◌↔◌, ◌++◌, ℕ, List, codes, true, false, nat_eq, IfOk, IsErrOf};
 ghost use Rattle.std.specs.Hash as fed;
 ghost use Rattle.std.specs.Cmp.Lexicographic.{pointwise, nat_list_eq_equiv};
 ghost use Rattle.std.specs.Cmp.{partial_equiv_from_equiv};
@@ -14,7 +14,10 @@ use std::fmt;
 use std::hash::{Hash, Hasher};
 use std::marker::Model;
 
-/// The name of a layer: 1 to 64 bytes that don't begin with `auto.`.
+/// The greatest length of a layer's name, in bytes.
+pub const NAME_MAX: usize = 64;
+
+/// The name of a layer: 1 to `NAME_MAX` bytes that don't begin with `auto.`.
 #[derive(Debug, Drop)]
 pub struct Name {
     text: Text,
@@ -31,14 +34,14 @@ impl Model for Name {
     ghost invariant = { λ name. is_good_name name.text ≡ true };
 }
 
-/// Why a text is no name of a layer, in the order in which it is tried.
+/// Why a text is not the name of a layer, in the order of the tests.
 #[derive(Clone, Copy, Debug, PartialEq, Eq)]
 pub enum NameFault {
-    /// It hasn't 1 to 64 bytes.
+    /// It is empty, or longer than `NAME_MAX` bytes.
     Length,
-    /// It begins with `auto.`, as the automatic layers do.
+    /// It begins with `auto.`, which is reserved for automatic layers.
     Auto,
-    /// The allocator had no memory.
+    /// Out of memory.
     NoMemory,
 }
 
@@ -62,20 +65,22 @@ impl From<NoMemory> for NameFault {
     }
 }
 
-fn is_long_enough(text: &str) -> bool
+fn is_good_length(text: &str) -> bool
     ensures { result ≡ has_good_length text.now }
 {
-    1 <= text.len() && text.len() <= 64
+    1 <= text.len() && text.len() <= NAME_MAX
 }
 
 impl Name {
-    /// The name with this text. The length is tried before the beginning.
+    /// The name with this text. Tests the length before the prefix.
     pub fn read(alloc: Global, text: &str) -> Result<Name, NameFault>
         ensures ok { IfOk result (λ name. (name ≡ text.now) × (is_good_name text.now ≡ true)) }
         ensures length { IsErrOf result NameFault.Length ↔ (has_good_length text.now ≡ false) }
+        ensures limit { NAME_MAX ≡ 64 }
+        ensures prefix { (rest : List ℕ) → is_automatic (codes "auto." ++ rest) ≡ true }
         ensures automatic { IsErrOf result NameFault.Auto ↔ ((has_good_length text.now ≡ true) × (is_automatic text.now ≡ true)) }
     {
-        if !is_long_enough(text) {
+        if !is_good_length(text) {
             return Err(NameFault::Length);
         }
         if text.starts_with("auto.") {

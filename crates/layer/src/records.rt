@@ -1,7 +1,13 @@
 use plan_base::{Dir, NodeId, Scid};
 
-/// The greatest number of entries of one layer, its five lists together.
+/// The greatest number of entries in one layer, its five lists together.
 pub const ENTRIES_MAX: usize = 65_536;
+
+/// The lowest bias, in percent.
+pub const BIAS_MIN: i8 = -100;
+
+/// The highest bias, in percent.
+pub const BIAS_MAX: i8 = 100;
 
 /// A channel that a layer creates.
 #[derive(Clone, Copy, Debug, PartialEq, Eq)]
@@ -16,12 +22,12 @@ pub struct Created {
     pub capacity: u64,
 }
 
-/// What a layer says of a direction: a field that isn't given leaves what is known without the layer.
+/// Changed fields of a direction. A field that is not given keeps its value from outside the layer.
 #[derive(Clone, Copy, Debug, PartialEq, Eq)]
 pub struct Update {
     /// The direction.
     pub dir: Dir,
-    /// Whether it may be used.
+    /// Whether payments may use it.
     pub enabled: Option<bool>,
     /// The least amount of an HTLC, at most MAX msat.
     pub htlc_min: Option<u64>,
@@ -44,7 +50,7 @@ pub enum Bound {
     Min,
 }
 
-/// What was learnt of a direction's liquidity.
+/// A bound on a direction's liquidity that a caller reported.
 #[derive(Clone, Copy, Debug, PartialEq, Eq)]
 pub struct Constraint {
     /// The direction.
@@ -53,15 +59,15 @@ pub struct Constraint {
     pub bound: Bound,
     /// The bound, at most MAX msat.
     pub amount: u64,
-    /// When it was learnt, in seconds.
+    /// When it was reported, in Unix seconds.
     pub moment: u64,
 }
 
-/// How much a direction is favoured over others of the same cost.
+/// A preference for or against a direction.
 #[derive(Clone, Copy, Debug, PartialEq, Eq)]
 pub struct Bias {
     /// The direction.
     pub dir: Dir,
-    /// From -100 to 100 percent.
+    /// From `BIAS_MIN` to `BIAS_MAX` percent; a positive bias favours the direction.
     pub bias: i8,
 }

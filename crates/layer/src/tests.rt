@@ -40,7 +40,7 @@ fn names(rt: HostRuntime) {
     assert!(rt; name.is_ok_and(|name| name.copy(alloc).is_ok_and(|copy| copy == name)));
 }
 
-// Entries in each list, after both kinds of replacement. The ends differ.
+// A layer with entries in each list, after a replaced update and a replaced bias. The two nodes must differ.
 fn filled(alloc: Global, dir: Dir, node: NodeId, other: NodeId) -> Result<Layer, NoMemory> {
     if node == other {
         return Err(NoMemory);
@@ -97,7 +97,7 @@ fn is_as_filled(layer: &Layer, node: NodeId) -> bool {
         && layer.disabled()[0] == node
 }
 
-// A layer goes to another thread by value and by reference.
+// Passes a layer to another thread by value, and one by reference.
 fn entries_elsewhere<R: Threads + Sync>(rt: &R, layer: &Layer, moved: Layer) -> (usize, usize) {
     thread::join(rt, || layer.entries(), move || moved.entries())
 }

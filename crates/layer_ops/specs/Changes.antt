@@ -1,5 +1,5 @@
--- What each call makes of a layer's five lists.
-use Rattle.std.specs.Prelude.{ℕ, ◌==◌, ◌&&◌, nat_eq, Bool, List, [], ◌∷◌, ◌++◌, position, slice_index_or, slice_set, Option, Some, None, if◌then◌else◌}
+-- The five lists of a layer after each change.
+use Rattle.std.specs.Prelude.{ℕ, ◌==◌, nat_eq, Bool, List, [], ◌∷◌, ◌++◌, position, slice_index_or, slice_set, Option, Some, None, if◌then◌else◌}
 use Rattle.std.specs.List.{list_any}
 use Rattle.std.specs.Cmp.Lexicographic.{pointwise}
 use Rattle.plan_base.specs.Dir.{Direction, same_dir}
@@ -18,19 +18,19 @@ has_created lists scid = list_any (λ channel. channel.scid == scid) lists.creat
 abbrev pub has_disabled : LayerLists → List ℕ → Bool
 has_disabled lists node = list_any (λ other. pointwise nat_eq other node) lists.disabled
 
--- where a direction's update and its bias stand
+-- the position of a direction's update, and of its bias
 abbrev pub update_place : LayerLists → Direction → Option ℕ
 update_place lists dir = position (λ change. same_dir change.dir dir) lists.updates
 
 abbrev pub bias_place : LayerLists → Direction → Option ℕ
 bias_place lists dir = position (λ bias. same_dir bias.dir dir) lists.biases
 
--- what is given, else what was there
+-- the given value, else the old one
 abbrev pub given_or : {A : Type 0} → Option A → Option A → Option A
 given_or (Some value) old = Some value
 given_or None old = old
 
--- an update with the given fields of a change put in
+-- an update with the given fields of a change
 abbrev pub merged : Update → Update → Update
 merged old change = record {
   dir = old.dir;
@@ -42,12 +42,12 @@ merged old change = record {
   delay = given_or change.delay old.delay;
 }
 
--- the updates with the entry at the place merged, or with one more
+-- the updates with the entry at the position merged, or with one more
 abbrev pub updated_at : List Update → Update → Option ℕ → List Update
 updated_at updates change (Some place) = slice_set updates place (merged (slice_index_or updates place change) change)
 updated_at updates change None = updates ++ change ∷ []
 
--- the biases with the one at the place replaced, or with one more
+-- the biases with the entry at the position replaced, or with one more
 abbrev pub biased_at : List Bias → Bias → Option ℕ → List Bias
 biased_at biases bias (Some place) = slice_set biases place bias
 biased_at biases bias None = biases ++ bias ∷ []
@@ -67,6 +67,6 @@ with_bias lists bias = record lists { biases = biased_at lists.biases bias (bias
 abbrev pub with_disabled : LayerLists → List ℕ → LayerLists
 with_disabled lists node = if has_disabled lists node then lists else record lists { disabled = lists.disabled ++ node ∷ [] }
 
--- without the constraints that were learnt before the cutoff
+-- without the constraints from before the cutoff
 abbrev pub aged : LayerLists → ℕ → LayerLists
 aged lists cutoff = record lists { constraints = since cutoff lists.constraints }

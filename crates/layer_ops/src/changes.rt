@@ -4,21 +4,21 @@ ghost use Rattle.layer.specs.Created.{IsGoodCreated};
 ghost use Rattle.layer.specs.Update.{IsGoodUpdate};
 ghost use Rattle.layer.specs.Constraint.{IsGoodConstraint};
 ghost use Rattle.layer.specs.Bias.{IsGoodBias};
-ghost use Rattle.layer.specs.Layer.{entries_of};
+ghost use Rattle.layer.specs.Layer.{count_entries};
 ghost use Rattle.layer_ops.specs.Changes.{has_created, has_disabled, merged, with_created, with_update, with_constraint, with_bias, with_disabled, aged};
-ghost use Rattle.layer_ops.specs.LayerRefusal.{IsRefusedFor, refusal_of_adding, refusal_of_create, refusal_of_update, refusal_of_inform, refusal_of_bias, refusal_of_disable};
+ghost use Rattle.layer_ops.specs.LayerRefusal.{IsLayerRefusal, refusal_of_adding, refusal_of_create, refusal_of_update, refusal_of_inform, refusal_of_bias, refusal_of_disable};
 
 use crate::LayerRefusal;
 use layer::{Bias, Constraint, Created, ENTRIES_MAX, Layer, Update};
 use plan_base::{Dir, NodeId, Scid};
 
-/// Creates a channel: adds it at the end. Refused where the layer has created it already, else where the layer is full.
-/// Any refusal leaves the layer as it was, here and below.
+/// Appends a created channel. Refuses first if the layer has created the channel already, then if the layer is full.
+/// A refusal leaves the layer unchanged, here and below.
 pub fn create_channel(layer: &mut Layer, channel: Created) -> Result<(), LayerRefusal>
     requires { IsGoodCreated channel }
     ensures ok { OnOk result (layer.new ≡ with_created layer.old channel) }
     ensures err { OnErr result (layer.new ≡ layer.old) }
-    ensures refusal { IsRefusedFor (refusal_of_create layer.old channel) result }
+    ensures refusal { IsLayerRefusal (refusal_of_create layer.old channel) result }
 {
     if creates(layer, channel.scid) {
         return Err(LayerRefusal::ChannelExists { scid: channel.scid });
@@ -35,8 +35,8 @@ fn creates(layer: &Layer, scid: Scid) -> bool
 }
 
 fn check_room(layer: &Layer) -> Result<(), LayerRefusal>
-    ensures refusal { IsRefusedFor (refusal_of_adding true layer.now) result }
-    ensures room { OnOk result (entries_of layer.now < ENTRIES_MAX) }
+    ensures refusal { IsLayerRefusal (refusal_of_adding true layer.now) result }
+    ensures room { OnOk result (count_entries layer.now < ENTRIES_MAX) }
 {
     let entries = layer.entries();
     if entries == ENTRIES_MAX {
@@ -45,13 +45,13 @@ fn check_room(layer: &Layer) -> Result<(), LayerRefusal>
     Ok(())
 }
 
-/// Changes the given fields of a direction's update in its place, or adds an update. An update without a field adds or
-/// keeps one.
+/// Changes the given fields of the direction's update in place, or appends an update if the direction has none. A change
+/// without fields also appends one. Refuses if it would append to a full layer.
 pub fn update(layer: &mut Layer, change: Update) -> Result<(), LayerRefusal>
     requires { IsGoodUpdate change }
     ensures ok { OnOk result (layer.new ≡ with_update layer.old change) }
     ensures err { OnErr result (layer.new ≡ layer.old) }
-    ensures refusal { IsRefusedFor (refusal_of_update layer.old change.dir) result }
+    ensures refusal { IsLayerRefusal (refusal_of_update layer.old change.dir) result }
 {
     let Some(place) = place_of_update(layer.updates(), change.dir) else {
         check_room(layer)?;
@@ -87,24 +87,25 @@ fn merge(old: &Update, change: &Update) -> Update
     }
 }
 
-/// Adds what was learnt of a direction at the end.
+/// Appends a constraint. Refuses if the layer is full.
 pub fn inform(layer: &mut Layer, constraint: Constraint) -> Result<(), LayerRefusal>
     requires { IsGoodConstraint constraint }
     ensures ok { OnOk result (layer.new ≡ with_constraint layer.old constraint) }
     ensures err { OnErr result (layer.new ≡ layer.old) }
-    ensures refusal { IsRefusedFor (refusal_of_inform layer.old) result }
+    ensures refusal { IsLayerRefusal (refusal_of_inform layer.old) result }
 {
     check_room(layer)?;
     layer.push_constraint(constraint)?;
     Ok(())
 }
 
-/// Puts a bias in the place of the direction's own, or adds it. A bias of 0 is kept like any other.
+/// Replaces the direction's bias in place, or appends the bias if the direction has none. A bias of 0 is kept like any
+/// other. Refuses if it would append to a full layer.
 pub fn bias(layer: &mut Layer, bias: Bias) -> Result<(), LayerRefusal>
     requires { IsGoodBias bias }
     ensures ok { OnOk result (layer.new ≡ with_bias layer.old bias) }
     ensures err { OnErr result (layer.new ≡ layer.old) }
-    ensures refusal { IsRefusedFor (refusal_of_bias layer.old bias.dir) result }
+    ensures refusal { IsLayerRefusal (refusal_of_bias layer.old bias.dir) result }
 {
     let Some(place) = place_of_bias(layer.biases(), bias.dir) else {
         check_room(layer)?;
@@ -122,11 +123,11 @@ fn place_of_bias(biases: &[Bias], dir: Dir) -> Option<usize>
     biases.iter().position(|bias| bias.dir == dir)
 }
 
-/// Disables a node: adds it at the end, or changes nothing where it is there.
+/// Appends a disabled node, or changes nothing if the node is disabled already. Refuses if it would append to a full layer.
 pub fn disable(layer: &mut Layer, node: NodeId) -> Result<(), LayerRefusal>
     ensures ok { OnOk result (layer.new ≡ with_disabled layer.old node) }
     ensures err { OnErr result (layer.new ≡ layer.old) }
-    ensures refusal { IsRefusedFor (refusal_of_disable layer.old node) result }
+    ensures refusal { IsLayerRefusal (refusal_of_disable layer.old node) result }
 {
     if disables(layer, node) {
         return Ok(());
@@ -142,8 +143,8 @@ fn disables(layer: &Layer, node: NodeId) -> bool
     layer.disabled().contains(&node)
 }
 
-/// Removes the constraints that were learnt before the cutoff, a moment in seconds, and tells how many went. The others
-/// keep their order. No memory is taken.
+/// Removes the constraints from before the cutoff, a time in Unix seconds, and returns how many it removed. The others
+/// keep their order. Allocates nothing.
 pub fn age(layer: &mut Layer, cutoff: u64) -> u32
     ensures kept { layer.new ≡ aged layer.old cutoff }
     ensures count { result + length layer.new.constraints ≡ length layer.old.constraints }

@@ -1,5 +1,5 @@
-//! Changes of one layer as callers ask for them: a direction has at most one update and one bias, a node is disabled once.
-//! Each call says what it makes of the five lists, and when it is refused.
+//! The changes that a caller can make to one layer, and when each is refused.
+//! A direction has at most one update and at most one bias, and a node is disabled at most once.
 #![tactic(auto)]
 
 mod changes;

@@ -5,7 +5,7 @@ use plan_base::{NoMemory, Scid};
 use std::error::Error;
 use std::fmt;
 
-/// Why a layer wasn't changed, in the order in which it is tried.
+/// Why a layer was not changed, in the order of the tests.
 #[derive(Clone, Copy, Debug, PartialEq, Eq)]
 pub enum LayerRefusal {
     /// The layer has created this channel already.
@@ -13,12 +13,12 @@ pub enum LayerRefusal {
         /// The channel.
         scid: Scid,
     },
-    /// The call would add an entry, and the layer has the greatest number of them.
+    /// The call would add an entry, and the layer has the greatest number of entries.
     LayerFull {
         /// That number.
         entries: usize,
     },
-    /// The allocator had no memory.
+    /// Out of memory.
     NoMemory,
 }
 

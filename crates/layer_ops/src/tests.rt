@@ -24,7 +24,7 @@ fn nothing_given(dir: Dir) -> Update
     }
 }
 
-fn one_entry_a_direction(layer: &mut Layer, first: Dir, second: Dir) -> Result<(), LayerRefusal> {
+fn change_two_directions(layer: &mut Layer, first: Dir, second: Dir) -> Result<(), LayerRefusal> {
     bias(
         layer,
         Bias {
@@ -76,7 +76,7 @@ fn entries_stay_in_their_places(rt: HostRuntime) {
     let (Ok(first), Ok(second)) = (Dir::read("100x3x0/0"), Dir::read("100x2x0/0")) else {
         return assert!(rt; false);
     };
-    assert!(rt; one_entry_a_direction(&mut layer, first, second).is_ok());
+    assert!(rt; change_two_directions(&mut layer, first, second).is_ok());
     let biases = [
         Bias {
             dir: first,
@@ -99,7 +99,7 @@ fn entries_stay_in_their_places(rt: HostRuntime) {
     assert!(rt; layer.updates() == &updates[..]);
 }
 
-fn learnt(dir: Dir, moment: u64) -> Constraint
+fn bound_at(dir: Dir, moment: u64) -> Constraint
     ensures { IsGoodConstraint result }
 {
     Constraint {
@@ -113,7 +113,7 @@ fn learnt(dir: Dir, moment: u64) -> Constraint
 fn filled(alloc: Global, dir: Dir) -> Result<Layer, LayerRefusal> {
     let mut layer = Layer::new(alloc);
     for moment in 0..65_536 {
-        inform(&mut layer, learnt(dir, moment))?;
+        inform(&mut layer, bound_at(dir, moment))?;
     }
     Ok(layer)
 }
@@ -129,7 +129,7 @@ fn a_full_layer(rt: HostRuntime) {
     let full = Err(LayerRefusal::LayerFull {
         entries: ENTRIES_MAX,
     });
-    assert!(rt; inform(&mut layer, learnt(dir, 0)) == full);
+    assert!(rt; inform(&mut layer, bound_at(dir, 0)) == full);
     assert!(rt; bias(&mut layer, Bias { dir, bias: 5 }) == full);
     assert!(rt; update(&mut layer, nothing_given(dir)) == full);
     assert!(rt; age(&mut layer, 1) == 1 && layer.entries() == 65_535);

@@ -1,11 +1,11 @@
--- The first line of bytes: what stands before the first LF, and what stands behind it.
+-- The first line of bytes: the bytes before the first LF, and the bytes after it.
 use Rattle.std.proofs.Common.{◌≡◌, ℕ, ◌+◌, ◌<◌, ◌≤◌, List, [], ◌∷◌, ◌++◌, length, take, drop, Bool, true, false, refl, ◌∙◌, ap, arith, suc, nat_lt, eqb, cond, eqb-true, eq-eqb}
 use Rattle.std.proofs.lemmas.Bool.{ltb-true, ltb-false}
 use Rattle.std.proofs.lemmas.List.{drop_all, take_all}
 use Rattle.std.proofs.lemmas.List.Folds.{length-prefix_len, prefix_len-append}
 use Rattle.std.proofs.lemmas.List.Sums.{prefix_len-le-length}
 use Rattle.line_cut.specs.Lines.{line_feed, is_feed, lines_of}
-use Rattle.line_cut.specs.Held.{has_feed, BeginsLong}
+use Rattle.line_cut.specs.Buffered.{has_feed, BeginsLong}
 use Rattle.line_cut.specs.FirstLen.{first_len}
 use Rattle.line_cut.specs.declared.limits.TheConstants.{LINE_MAX}
 use Rattle.line_cut.proofs.LinesLemmas.{lines_of_none, lines_of_first, lines_of_last}
@@ -19,7 +19,7 @@ first_other : (byte : ℕ) (bytes : List ℕ) → is_feed byte ≡ false → fir
 unfolding first_len
 first_other byte bytes is = rw is (omega arith)
 
--- no LF stands before the first one
+-- no LF comes before the first one
 no_feed_next : (byte : ℕ) (bytes : List ℕ) (feed : Bool) → is_feed byte ≡ feed
     → has_feed (take (first_len bytes) bytes) ≡ false → has_feed (take (first_len (byte ∷ bytes)) (byte ∷ bytes)) ≡ false
 no_feed_next byte bytes true is rest = rw (first_feed byte bytes is) refl
@@ -30,30 +30,7 @@ unfolding first_len
 no_feed_before [] = refl
 no_feed_before (byte ∷ bytes) = no_feed_next byte bytes (is_feed byte) refl (no_feed_before bytes)
 
--- an LF is there exactly where the first line is not all
-feed_next : (byte : ℕ) (bytes : List ℕ) (feed : Bool) → is_feed byte ≡ feed → (has_feed bytes ≡ true → first_len bytes < length bytes)
-    → has_feed (byte ∷ bytes) ≡ true → first_len (byte ∷ bytes) < length (byte ∷ bytes)
-feed_next byte bytes true is rest has = rw (first_feed byte bytes is) (omega arith)
-feed_next byte bytes false is rest has =
-    let inside : first_len bytes < length bytes = rest (rw is at has) in
-    rw (first_other byte bytes is) (omega (arith, inside))
-
-pub feed_inside : (bytes : List ℕ) → has_feed bytes ≡ true → first_len bytes < length bytes
-feed_inside [] has = cc
-feed_inside (byte ∷ bytes) has = feed_next byte bytes (is_feed byte) refl (λ more. feed_inside bytes more) has
-
-no_feed_next_inside : (byte : ℕ) (bytes : List ℕ) (feed : Bool) → is_feed byte ≡ feed → (has_feed bytes ≡ false → length bytes ≤ first_len bytes)
-    → has_feed (byte ∷ bytes) ≡ false → length (byte ∷ bytes) ≤ first_len (byte ∷ bytes)
-no_feed_next_inside byte bytes true is rest has = let wrong : true ≡ false = rw is at has in cc
-no_feed_next_inside byte bytes false is rest has =
-    let all : length bytes ≤ first_len bytes = rest (rw is at has) in
-    rw (first_other byte bytes is) (omega (arith, all))
-
-pub no_feed_inside : (bytes : List ℕ) → has_feed bytes ≡ false → length bytes ≤ first_len bytes
-no_feed_inside [] has = omega arith
-no_feed_inside (byte ∷ bytes) has = no_feed_next_inside byte bytes (is_feed byte) refl (λ more. no_feed_inside bytes more) has
-
--- where an LF is there, the bytes are the first line, the LF and what stands behind it
+-- bytes with an LF are the first line, the LF and the bytes after it
 split_next : (byte : ℕ) (bytes : List ℕ) (feed : Bool) → is_feed byte ≡ feed
     → (first_len bytes < length bytes → bytes ≡ take (first_len bytes) bytes ++ line_feed ∷ drop (first_len bytes + 1) bytes)
     → first_len (byte ∷ bytes) < length (byte ∷ bytes)
@@ -70,7 +47,7 @@ pub split_at_feed : (bytes : List ℕ) → first_len bytes < length bytes
 split_at_feed [] within = absurd (omega (arith, within))
 split_at_feed (byte ∷ bytes) within = split_next byte bytes (is_feed byte) refl (λ below. split_at_feed bytes below) within
 
--- the first line is as long as it says
+-- `first_len` is the length of the first line
 pub first_len_is : (bytes : List ℕ) → length (take (first_len bytes) bytes) ≡ first_len bytes
 unfolding first_len
 first_len_is bytes = length-prefix_len _ bytes
@@ -79,14 +56,14 @@ pub first_len_within : (bytes : List ℕ) → first_len bytes ≤ length bytes
 unfolding first_len
 first_len_within bytes = prefix_len-le-length _ bytes
 
--- more bytes behind don't shorten the first line, nor change one that an LF ends
+-- more bytes at the end do not shorten the first line, nor change one that ends with an LF
 longer_test : (first len more : ℕ) (all : Bool) → eqb first len ≡ all → first ≤ len → first ≤ cond all (len + more) first
 longer_test first len more true is le = omega (arith, eqb-true _ _ is)
 longer_test first len more false is le = omega arith
 
-pub first_len_behind : (bytes more : List ℕ) → first_len bytes ≡ length bytes → first_len (bytes ++ more) ≡ length bytes + first_len more
+pub first_len_append : (bytes more : List ℕ) → first_len bytes ≡ length bytes → first_len (bytes ++ more) ≡ length bytes + first_len more
 unfolding first_len
-first_len_behind bytes more all = prefix_len-append _ bytes more ∙ (rw (eq-eqb _ _ all) refl)
+first_len_append bytes more all = prefix_len-append _ bytes more ∙ (rw (eq-eqb _ _ all) refl)
 
 pub first_len_longer : (bytes more : List ℕ) → first_len bytes ≤ first_len (bytes ++ more)
 unfolding first_len
@@ -100,7 +77,7 @@ pub first_len_same : (bytes more : List ℕ) → first_len bytes < length bytes 
 unfolding first_len
 first_len_same bytes more whole = prefix_len-append _ bytes more ∙ same_test _ _ _ _ refl whole
 
--- bytes that aren't none have a first line
+-- bytes that are not empty have a first line
 some_lines : (bytes : List ℕ) (feed : Bool) → nat_lt (first_len bytes) (length bytes) ≡ feed → 0 < length bytes
     → lines_of bytes ≡ take (first_len bytes) bytes ∷ lines_of (drop (first_len bytes + 1) bytes)
 unfolding first_len
@@ -113,7 +90,7 @@ some_lines bytes false is some =
 pub lines_of_some : (bytes : List ℕ) → 0 < length bytes → lines_of bytes ≡ take (first_len bytes) bytes ∷ lines_of (drop (first_len bytes + 1) bytes)
 lines_of_some bytes some = some_lines bytes _ refl some
 
--- the first line is too long exactly where its length says so
+-- the first line is too long if and only if `first_len` is above the limit
 pub begins_long : (bytes : List ℕ) → LINE_MAX < first_len bytes → BeginsLong (lines_of bytes)
 begins_long bytes long =
     let le : first_len bytes ≤ length bytes = first_len_within bytes in

@@ -3,16 +3,16 @@ use Rattle.std.proofs.Common.{◌≡◌, ℕ, List, ◌++◌, Bool, true, false,
 use Rattle.std.proofs.lemmas.Bool.{eqb-true}
 use Rattle.std.proofs.lemmas.List.{append-nil}
 use Rattle.std.specs.Io.KnownBytes.{Keeps, Consumes, IsAtEnd, prepend_known}
-use Rattle.line_cut.specs.Held.{Held, nothing_held, pending}
+use Rattle.line_cut.specs.Buffered.{Buffered, pending, StaysKnown}
 
--- a read moved bytes from what is left to what is held
+-- a read moved bytes from the source to the buffer
 pub kept_by_read : (before after : Option (List ℕ)) (rest more now : List ℕ) → Consumes before after more → now ≡ rest ++ more
     → Keeps (prepend_known rest before) (prepend_known now after)
 kept_by_read None after rest more now taken is = tt
 kept_by_read (Some left) None rest more now taken is = absurd taken
 kept_by_read (Some left) (Some others) rest more now taken is = rw (taken, is, append_assoc) refl
 
--- a read that failed moved none
+-- a read that failed moved no bytes
 pub kept_by_fault : (before after : Option (List ℕ)) (rest now : List ℕ) → Keeps before after → now ≡ rest
     → Keeps (prepend_known rest before) (prepend_known now after)
 kept_by_fault None after rest now same is = tt
@@ -29,27 +29,29 @@ filled_test : (ended : Bool) (before after : Option (List ℕ)) (rest : List ℕ
 filled_test true before after rest n is same none = ended_keeps before after rest same (none (eqb-true _ _ is))
 filled_test false before after rest n is same none = same
 
--- a read of a source that hadn't ended leaves the pending bytes, also where it ends
-pub filled : (old new : Held) (before after : Option (List ℕ)) (n : ℕ) → old.ended ≡ false → new.ended ≡ nat_eq n 0
+-- a read of a source that had not ended keeps the pending bytes, also at the end
+pub filled : (old new : Buffered) (before after : Option (List ℕ)) (n : ℕ) → old.ended ≡ false → new.ended ≡ nat_eq n 0
     → Keeps (prepend_known old.rest before) (prepend_known new.rest after) → (n ≡ 0 → IsAtEnd after) → Keeps (pending old before) (pending new after)
 unfolding pending
 filled old new before after n going is same none = rw going (filled_test new.ended _ after new.rest n (sym is) same none)
 
-pub filled_not : (old new : Held) (before after : Option (List ℕ)) → old.ended ≡ false → new.ended ≡ false
+pub filled_not : (old new : Buffered) (before after : Option (List ℕ)) → old.ended ≡ false → new.ended ≡ false
     → Keeps (prepend_known old.rest before) (prepend_known new.rest after) → Keeps (pending old before) (pending new after)
 unfolding pending
 filled_not old new before after going still same = rw (going, still) same
 
--- before the source has ended, and at first
-pub pending_open : (held : Held) (left : Option (List ℕ)) → held.ended ≡ false → pending held left ≡ prepend_known held.rest left
-unfolding pending
-pending_open held left going = rw going refl
+-- a source stays known through a read, and through several
+pub known_by_read : (before after : Option (List ℕ)) (rest now : List ℕ) → Keeps (prepend_known rest before) (prepend_known now after) → StaysKnown before after
+known_by_read None after rest now same = tt
+known_by_read (Some left) None rest now same = absurd same
+known_by_read (Some left) (Some others) rest now same = tt
 
-pub pending_ended : (held : Held) (left : Option (List ℕ)) → held.ended ≡ true → pending held left ≡ Some held.rest
-unfolding pending
-pending_ended held left ended = rw ended refl
+pub known_always : (left : Option (List ℕ)) → StaysKnown left left
+known_always None = tt
+known_always (Some bytes) = tt
 
-pub pending_fresh : (left : Option (List ℕ)) → pending nothing_held left ≡ left
-unfolding pending
-pending_fresh None = refl
-pending_fresh (Some bytes) = refl
+pub known_on : (before mid after : Option (List ℕ)) → StaysKnown before mid → StaysKnown mid after → StaysKnown before after
+known_on None mid after a b = tt
+known_on (Some bytes) None after a b = absurd a
+known_on (Some bytes) (Some others) None a b = absurd b
+known_on (Some bytes) (Some others) (Some rest) a b = tt

@@ -1,4 +1,4 @@
--- Parts of a list: where they begin and end, and what a change elsewhere leaves of them.
+-- Parts of a list: how they begin and end, and that a change elsewhere keeps them.
 use Rattle.std.proofs.Common.{◌≡◌, ℕ, ◌+◌, ◌-◌, ◌≤◌, List, ◌++◌, length, take, drop, slice_range, sym, ap, ◌∙◌, arith}
 use Rattle.std.specs.List.{copy_within}
 use Rattle.std.proofs.lemmas.List.{drop-take, drop-drop, length-take, length-drop, take-take, take-append-le, length-take-le}
@@ -25,20 +25,20 @@ consumed xs start end count inside =
     sym (ap (λ j. drop count (take j (drop start xs))) parts ∙ drop-take count _ (drop start xs)
     ∙ ap (take (end - (start + count))) (drop-drop count start xs))
 
--- the front of a part
+-- the start of a part
 pub front_of : (xs : List ℕ) (start end n : ℕ) → start + n ≤ end → slice_range xs start (start + n) ≡ take n (slice_range xs start end)
 front_of xs start end n inside =
     let len : start + n - start ≡ n = omega arith in
     let below : n ≤ end - start = omega arith in
     ap (λ j. take j (drop start xs)) len ∙ sym (take-take n (end - start) (drop start xs) below)
 
--- a part of the front, where the front stays
+-- a part of a front that stays the same
 pub same_below : (xs ys : List ℕ) (at start end : ℕ) → take at ys ≡ take at xs → end ≤ at → slice_range ys start end ≡ slice_range xs start end
 same_below xs ys at start end same below =
     between_is ys start end ∙ ap (drop start) (sym (take-take end at ys below) ∙ ap (take end) same ∙ take-take end at xs below)
     ∙ sym (between_is xs start end)
 
--- a part that moved to the front with all from `from` to `to`
+-- a part that moved to the start with everything from `from` to `to`
 pub moved : (xs : List ℕ) (from to start end : ℕ) → from ≤ start → start ≤ end → end ≤ to → to ≤ length xs
     → slice_range (copy_within xs from to 0) (start - from) (end - from) ≡ slice_range xs start end
 moved xs from to start end first ordered last within =

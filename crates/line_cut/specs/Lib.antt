@@ -1,5 +1,5 @@
+pub mod Buffered
 pub mod FirstLen
-pub mod Held
 pub mod Layout
 pub mod Lines
 pub mod Steps

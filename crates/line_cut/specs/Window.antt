@@ -1,4 +1,4 @@
--- A window by what it shows of its buffer.
+-- Serves private clauses only. The parts of a window's buffer.
 use Rattle.std.specs.Prelude.{ℕ, ◌-◌, List, slice_range}
 use Rattle.line_cut.specs.declared.limits.TheConstants.{SIZE}
 use Rattle.line_cut.specs.declared.window.Window.{Window}
@@ -11,6 +11,6 @@ line_in w = slice_range w.bytes.items w.line w.line_end
 abbrev pub rest_in : Window → List ℕ
 rest_in w = slice_range w.bytes.items w.start w.end
 
--- how many bytes more there is room for
+-- how many more bytes there is room for
 abbrev pub room_in : Window → ℕ
 room_in w = SIZE - w.end

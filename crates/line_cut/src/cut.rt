@@ -1,18 +1,18 @@
 use std::error::Error;
 use std::fmt;
 
-/// What a call found, where reading didn't fail.
+/// The outcome of a call whose reads did not fail.
 #[derive(Clone, Copy, Debug, PartialEq, Eq)]
 pub enum Cut {
     /// One more line.
     Line,
-    /// The source has ended and nothing is left.
+    /// The source has ended and all lines are cut.
     End,
-    /// The next line has more than `LINE_MAX` bytes. Every later call finds the same.
+    /// The next line has more than `LINE_MAX` bytes. Every later call returns the same.
     Long,
 }
 
-/// A read failed before the next line was whole. The count of faults of the source tells that it did.
+/// A read failed before the next line was whole. The source's count of faults has risen.
 #[derive(Clone, Copy, Debug, PartialEq, Eq)]
 pub struct ReadFault;
 

@@ -1,5 +1,5 @@
-//! Lines of bytes, cut from a source in any pieces: the bytes between LFs, and a last piece without LF.
-//! A call reads only while it holds no whole line, so that a line can be answered before the next one comes.
+//! Splits a byte stream into lines. Each line ends with an LF; bytes after the last LF are also a line. A call reads only
+//! while no whole line is buffered, so that a line can be answered before the next one arrives.
 #![tactic(auto)]
 
 mod cut;

@@ -2,8 +2,8 @@ ghost use Rattle.std.specs.Prelude.{◌≡◌, ◌≢◌, ◌<◌, ◌≤◌, tr
 ghost use Rattle.std.specs.Io.KnownBytes.{Keeps, IsAtEnd};
 ghost use Rattle.port_io.specs.Faults.{Rose};
 ghost use Rattle.line_cut.specs.Lines.{lines_of};
-ghost use Rattle.line_cut.specs.Held.{nothing_held, pending, has_feed, BeginsLong, CutsLine, CutsAtFeed, IsLongNext};
-ghost use Rattle.line_cut.specs.Steps.{wants_more, still_to_read, Cuts};
+ghost use Rattle.line_cut.specs.Buffered.{nothing_buffered, pending, has_feed, BeginsLong, CutsLine, CutsAtFeed, IsLongNext, StaysKnown};
+ghost use Rattle.line_cut.specs.Steps.{wants_more, still_to_read, CutOutcome};
 
 use crate::limits::LINE_MAX;
 use crate::window::Window;
@@ -13,8 +13,8 @@ use port_io::Source;
 use std::alloc::Global;
 use std::marker::Model;
 
-/// Cuts the lines of a source, one a call. Contracts see what is held: the bytes taken and not yet cut, the last
-/// line that was cut, and whether the source has ended.
+/// Cuts a source into lines, one line in each call. Contracts see what is buffered: the bytes taken and not yet cut, the
+/// last line that was cut, and whether the source has ended.
 #[derive(Drop)]
 pub struct Lines {
     window: Window,
@@ -22,18 +22,19 @@ pub struct Lines {
 }
 
 impl Model for Lines {
-    ghost use Rattle.line_cut.specs.Held.{Held};
+    ghost use Rattle.line_cut.specs.Buffered.{Buffered};
     ghost use Rattle.line_cut.specs.Window.{line_in, rest_in};
 
-    ghost Value = { Held };
+    ghost Value = { Buffered };
 
     ghost view = { λ l. record { rest = rest_in l.window; line = line_in l.window; ended = l.ended } };
 }
 
 impl Lines {
-    /// Nothing taken yet. All the memory that later calls need is taken here.
+    /// Starts with nothing taken. All the memory that later calls need is allocated here.
     pub fn new(alloc: Global) -> Result<Lines, NoMemory>
-        ensures fresh { IfOk result (λ lines. lines ≡ nothing_held) }
+        ensures fresh { IfOk result (λ lines. lines ≡ nothing_buffered) }
+        ensures limit { LINE_MAX ≡ 1048576 }
     {
         let window = Window::new(alloc)?;
         Ok(Lines {
@@ -42,15 +43,16 @@ impl Lines {
         })
     }
 
-    /// The last line that was cut, without its LF.
+    /// Returns the last line that was cut, without its LF.
     pub fn line(&self) -> &[u8]
         ensures { result.now ≡ self.now.line }
     {
         self.window.line()
     }
 
-    /// Cuts one line more off what the source gives, and reads as long as no whole line is held. It takes no memory.
-    /// After `ReadFault` the bytes that were taken are kept, and the next call goes on with them.
+    /// Cuts the next line of the source. It reads only while no whole line is buffered, and takes no memory. After
+    /// `ReadFault` the bytes that were taken are kept, and the next call continues with them.
+    #[tactic(auto, using(crate::proofs::Pending::known_always, crate::proofs::Pending::known_on))]
     pub fn next<S: Source>(&mut self, source: &mut S) -> Result<Cut, ReadFault>
         ensures line { result ≡ Ok Cut.Line
             → CutsLine (pending self.old (S.left source.old)) self.new.line (pending self.new (S.left source.new)) }
@@ -71,6 +73,8 @@ impl Lines {
         ensures open { OnErr result (self.new.ended ≡ false) }
         ensures cause { OnErr result (Rose (S.read_faults source.old) (S.read_faults source.new)) }
         ensures ended { self.old.ended ≡ true → self.new.ended ≡ true }
+        ensures at_end { self.old.ended ≡ false → self.new.ended ≡ true → IsAtEnd (S.left source.new) }
+        ensures known { StaysKnown (S.left source.old) (S.left source.new) }
         ensures stops { self.old.ended ≡ true → source.new ≡ source.old }
         ensures ready { has_feed self.old.rest ≡ true → source.new ≡ source.old }
         ensures counts { S.read_faults source.old ≤ S.read_faults source.new }
@@ -89,10 +93,11 @@ impl Lines {
         if self.ended {
             return false;
         }
-        let held = self.window.len();
-        self.window.first() == held && held <= LINE_MAX
+        let buffered = self.window.len();
+        self.window.first() == buffered && buffered <= LINE_MAX
     }
 
+    #[tactic(auto, using(crate::proofs::Pending::known_by_read))]
     fn fill<S: Source>(&mut self, source: &mut S) -> Result<(), ReadFault>
         requires wanted { wants_more self.old ≡ true }
         ensures line { self.new.line ≡ self.old.line }
@@ -100,6 +105,8 @@ impl Lines {
             (pending self.new (S.left source.new)) }
         ensures nearer { OnOk result (still_to_read self.new < still_to_read self.old) }
         ensures fault { OnErr result (self.new ≡ self.old) }
+        ensures at_end { self.new.ended ≡ true → IsAtEnd (S.left source.new) }
+        ensures known { StaysKnown (S.left source.old) (S.left source.new) }
         ensures cause { OnErr result (Rose (S.read_faults source.old) (S.read_faults source.new)) }
         ensures counts { S.read_faults source.old ≤ S.read_faults source.new }
         ensures beside { S.beside_reading source.new ≡ S.beside_reading source.old }
@@ -114,7 +121,7 @@ impl Lines {
 
     fn cut(&mut self) -> Cut
         requires { wants_more self.old ≡ false }
-        ensures { Cuts result self.old self.new }
+        ensures { CutOutcome result self.old self.new }
     {
         if self.window.len() == 0 {
             return Cut::End;

@@ -6,7 +6,7 @@ use std::test::Fail;
 
 const PIECES: [usize; 3] = [1, 7, 65_536];
 
-// What four calls find: a line in brackets, the end, a long line, a read fault.
+// Makes four calls and writes their outcomes: a line in brackets, `.` at the end, `!` for a long line, `?` for a fault.
 fn four_calls(
     alloc: Global,
     input: &[u8],
@@ -74,20 +74,20 @@ fn nothing_is_lost_at_a_read_that_fails(rt: HostRuntime) -> Result<(), Fail> {
 fn a_line_may_have_as_many_bytes_as_the_limit(rt: HostRuntime) -> Result<(), Fail> {
     let alloc = rt.alloc();
     for piece in PIECES {
-        for behind in ["", "\n"] {
-            let found = long_line(alloc, LINE_MAX, behind, piece)?;
+        for rest in ["", "\n"] {
+            let found = long_line(alloc, LINE_MAX, rest, piece)?;
             assert_eq!(rt; found.len(), LINE_MAX + "[]...".len());
-            let found = long_line(alloc, LINE_MAX + 1, behind, piece)?;
+            let found = long_line(alloc, LINE_MAX + 1, rest, piece)?;
             assert!(rt; found.as_slice() == b"!!!!".as_slice());
         }
     }
     Ok(())
 }
 
-// What four calls find of one line of so many bytes, and of what stands behind it.
-fn long_line(alloc: Global, len: usize, behind: &str, piece: usize) -> Result<Vec<u8>, NoMemory> {
+// Makes four calls on one line of `len` bytes and the text after it.
+fn long_line(alloc: Global, len: usize, rest: &str, piece: usize) -> Result<Vec<u8>, NoMemory> {
     let mut input = Vec::with_capacity(alloc, len)?;
     input.resize(len, b'x')?;
-    input.extend_from_slice(behind.as_bytes())?;
+    input.extend_from_slice(rest.as_bytes())?;
     four_calls(alloc, &input, piece, Vec::new(alloc))
 }

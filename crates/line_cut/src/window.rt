@@ -4,14 +4,14 @@ ghost use Rattle.port_io.specs.Faults.{HasCause};
 ghost use Rattle.line_cut.specs.FirstLen.{first_len};
 ghost use Rattle.line_cut.specs.Layout.{IsLaidOut};
 
-use crate::limits::{LINE_MAX, PIECE, SIZE};
+use crate::limits::{LINE_MAX, SIZE};
 use memchr::memchr;
 use plan_base::NoMemory;
-use port_io::{Failed, Source};
+use port_io::{Failed, PIECE, Source};
 use std::alloc::Global;
 
-/// A buffer of `SIZE` bytes, and in it the last line that was cut and, behind that, the bytes that are not yet cut.
-/// How far these hold no LF is known, so that each byte is searched once.
+/// A buffer of `SIZE` bytes with the last line that was cut and, after it, the bytes that are not yet cut. It remembers how
+/// many of these are known to contain no LF, so that each byte is searched once.
 #[derive(Drop)]
 pub(crate) struct Window {
     bytes: Vec<u8>,
@@ -26,7 +26,7 @@ pub(crate) struct Window {
 impl Window {
     ghost use Rattle.line_cut.specs.Window.{line_in, rest_in, room_in};
 
-    /// A window that shows nothing yet.
+    /// Creates an empty window.
     pub(crate) fn new(alloc: Global) -> Result<Window, NoMemory>
         ensures line { IfOk result (λ window. line_in window ≡ []) }
         ensures rest { IfOk result (λ window. rest_in window ≡ []) }
@@ -43,29 +43,29 @@ impl Window {
         })
     }
 
-    /// The last line that was cut.
+    /// Returns the last line that was cut.
     pub(crate) fn line(&self) -> &[u8]
         ensures { result.now ≡ line_in self.now }
     {
         &self.bytes[self.line..self.line_end]
     }
 
-    /// How many bytes are not yet cut.
+    /// Returns how many bytes are not yet cut.
     pub(crate) fn len(&self) -> usize
         ensures { result ≡ length (rest_in self.now) }
     {
         self.end - self.start
     }
 
-    /// How many of them stand before the first LF, or all where there is none.
+    /// Returns how many of them come before the first LF, or how many there are if there is no LF.
     pub(crate) fn first(&self) -> usize
         ensures { result ≡ first_len (rest_in self.now) }
     {
         self.first
     }
 
-    /// Makes room for a piece: what the window shows moves to the front of its buffer where that is cheap, or where
-    /// there is no other room.
+    /// Makes room for a piece: moves the contents to the start of the buffer if that is cheap, or if there is no other
+    /// room.
     pub(crate) fn make_room(&mut self)
         requires { length (rest_in self.old) ≤ LINE_MAX }
         ensures line { line_in self.new ≡ line_in self.old }
@@ -83,7 +83,7 @@ impl Window {
         self.end = end - line;
     }
 
-    /// Reads once, a piece at most, behind bytes that hold no LF.
+    /// Reads once, at most one piece, after bytes that contain no LF.
     pub(crate) fn read<S: Source>(&mut self, source: &mut S) -> Result<usize, Failed>
         requires room { PIECE ≤ room_in self.old }
         requires no_feed { first_len (rest_in self.old) ≡ length (rest_in self.old) }
@@ -120,11 +120,12 @@ impl Window {
     }
 }
 
-// Reads a piece at most, to this place.
-fn read_at<S: Source>(bytes: &mut [u8], at: usize, source: &mut S) -> Result<usize, Failed>
-    requires { at + PIECE ≤ length bytes.old }
-    ensures front { take at bytes.new ≡ take at bytes.old }
-    ensures bytes { ReadConsumes (S.left source.old) (S.left source.new) result (drop at bytes.new) }
+// Reads at most one piece into `bytes`, from `at` on.
+fn read_at<S: Source>(bytes: &mut Vec<u8>, at: usize, source: &mut S) -> Result<usize, Failed>
+    requires { at + PIECE ≤ length bytes.old.items }
+    ensures len { length bytes.new.items ≡ length bytes.old.items }
+    ensures front { take at bytes.new.items ≡ take at bytes.old.items }
+    ensures bytes { ReadConsumes (S.left source.old) (S.left source.new) result (drop at bytes.new.items) }
     ensures few { IfOk result (λ n. n ≤ PIECE) }
     ensures cause { HasCause (S.read_faults source.old) (S.read_faults source.new) result }
     ensures beside { S.beside_reading source.new ≡ S.beside_reading source.old }
@@ -132,7 +133,7 @@ fn read_at<S: Source>(bytes: &mut [u8], at: usize, source: &mut S) -> Result<usi
     source.read(&mut bytes[at..at + PIECE])
 }
 
-// How many bytes stand before the first LF.
+// Returns how many bytes come before the first LF, or how many there are if there is no LF.
 fn first_len(bytes: &[u8]) -> usize
     ensures len { result ≡ first_len bytes.now }
     ensures within { result ≤ length bytes.now }

@@ -7,7 +7,9 @@ use Rattle.indexmap.specs.IndexMap.{IndexMap, insert_entry}
 use Rattle.indexmap.proofs.CallerLemmas.{insert_entry-new}
 use Rattle.std.proofs.lemmas.Bool.{eqb-true}
 use Rattle.std.proofs.lemmas.List.{map-append}
-use Rattle.std.proofs.lemmas.List.Elements.{All-cons, All-head, All-tail, All-push, All-weaker, All-map}
+use Rattle.std.proofs.lemmas.List.Elements.{All-cons, All-contains, All-head, All-tail, All-push, All-weaker, All-map}
+use Rattle.std.proofs.lemmas.Map.Made.{keys_of-map_values, lookup-map_values}
+use Rattle.std.proofs.lemmas.Map.Views.{Contains-from_lookup, exact_unsigned_eq}
 use Rattle.one_history.specs.declared.entry.Entry.{Entry}
 use Rattle.one_history.specs.declared.entry.Told.{Told}
 use Rattle.one_history.specs.declared.journal.JournalRefusal.{JournalRefusal}
@@ -23,17 +25,13 @@ module _ {R : Type 0} where
   -- the place that is shown for a caller is that of what is kept for it
   pub lookup-places_kept : (test : ℕ → Bool) (kept : List (ℕ × Told R)) → lookup test (places_kept kept) ≡ option_map (λ t. t.at) (lookup test kept)
   unfolding places_kept
-  lookup-places_kept test [] = refl
-  lookup-places_kept test (k ∷ kept) =
-      elim (test k.0) as (λ b. cond b (Some k.1.at) (lookup test (places_kept kept)) ≡ option_map (λ t. t.at) (cond b (Some k.1) (lookup test kept)))
-      [ true ↦ refl | false ↦ lookup-places_kept test kept ]
+  lookup-places_kept test kept = lookup-map_values (λ (t : Told R). t.at) test kept
 
   pub keys-places_kept : (kept : List (ℕ × Told R)) → keys_of (places_kept kept) ≡ keys_of kept
   unfolding places_kept
-  keys-places_kept [] = refl
-  keys-places_kept (k ∷ kept) = ap (λ ks. k.0 ∷ ks) (keys-places_kept kept)
+  keys-places_kept kept = keys_of-map_values (λ (t : Told R). t.at) kept
 
-  -- where a caller isn't among the keys, nothing of it is shown
+  -- a caller that is not among the keys is not shown
   unshown : (caller : ℕ) (kept : List (ℕ × Told R)) → AllByRecursion (λ key. nat_eq caller key ≡ false) (keys_of kept)
       → filter (λ w. not (nat_eq caller w.0)) (places_kept kept) ≡ places_kept kept
   unfolding places_kept
@@ -57,16 +55,7 @@ module _ {R : Type 0} where
 
   -- what holds of all that is kept holds of what is found, and of the rest
   pub All-lookup : (P : ℕ → Told R → Type 0) (caller : ℕ) (kept : List (ℕ × Told R)) (told : Told R) → All (λ k. P k.0 k.1) kept → lookup (nat_eq caller) kept ≡ Some told → P caller told
-  All-lookup P caller [] told all found = cc
-  All-lookup P caller (k ∷ kept) told all found =
-      by (nat_eq caller k.0) refl (All-lookup P caller kept told (All-tail (λ k. P k.0 k.1) k kept all)) (All-head (λ k. P k.0 k.1) k kept all) found
-    where
-      by : (b : Bool) → nat_eq caller k.0 ≡ b → (lookup (nat_eq caller) kept ≡ Some told → P caller told) → P k.0 k.1 → cond (nat_eq caller k.0) (Some k.1) (lookup (nat_eq caller) kept) ≡ Some told → P caller told
-      by true is rest here found =
-          let t : Some k.1 ≡ Some told = rw is at found in
-          let e : k.1 ≡ told = cc in
-          subst (λ c. P c told) (sym (eqb-true caller k.0 is)) (subst (P k.0) e here)
-      by false is rest here found = rest (rw is at found)
+  All-lookup P caller kept told all found = All-contains (λ k. P k.0 k.1) kept (caller, told) all (Contains-from_lookup exact_unsigned_eq caller told kept found)
 
   pub All-remove_entry : (P : ℕ × Told R → Type 0) (test : ℕ → Bool) (kept : List (ℕ × Told R)) → All P kept → All P (remove_entry test kept)
   All-remove_entry P test [] all = all
@@ -128,7 +117,7 @@ module _ {M R : Type 0} (history : List (Entry M)) (kept : List (ℕ × Told R))
   shows_answer kept' distinct removed =
       rw (← shows, removed, places_kept-remove_entry caller kept distinct) refl
 
--- an insert that succeeds, for a caller for whom nothing was kept, puts the reply behind the others
+-- an insert for a caller for whom nothing was kept appends the reply
 pub kept_push : {R S E : Type 0} (kept : List (ℕ × Told R)) (reserved : IndexMap ℕ (Told R) S) (caller : ℕ) (told : Told R) (kept' : List (ℕ × Told R)) (inserted : Result (Option (Told R)) E)
     → reserved.entries ≡ kept → None ≡ lookup (nat_eq caller) kept → inserted ≡ Ok None
     → OnOk inserted (kept' ≡ insert_entry nat_eq reserved.entries caller told) → kept' ≡ kept ++ (caller, told) ∷ []
@@ -137,7 +126,7 @@ kept_push kept reserved caller told kept' inserted same none succeeds on_ok =
     ∙ insert_entry-new nat_eq reserved caller told (rw same (sym none))
     ∙ ap (λ es. es ++ (caller, told) ∷ []) same
 
--- a journal's refusal, handed on as a machine's
+-- a refusal of the journal, as a refusal of the machine
 pub refuses_event : {M R : Type 0} (history : List (Entry M)) (kept : List (ℕ × Told R)) (core : Core M) (caller : ℕ) (result : Result ℕ MachineRefusal) (refusal : JournalRefusal)
     → core_of history kept ≡ core → place_of caller core ≡ None → Refuses (length history) refusal → IsErrAnd result (λ e. e ≡ event_refusal refusal)
     → IfErr result (λ e. RefusesEvent caller core e)

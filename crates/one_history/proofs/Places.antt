@@ -1,4 +1,4 @@
--- What stands at a place of a history stays there as the history grows.
+-- The entry at a place keeps its place and its reply as the history grows.
 use Rattle.std.proofs.Common.{◌≡◌, ℕ, List, [], ◌∷◌, ◌++◌, length, Some, refl, suc, zero, ◌<◌, slice_get, arith}
 use Rattle.one_history.specs.declared.entry.Entry.{Entry}
 use Rattle.one_history.specs.declared.entry.Told.{Told}
@@ -43,14 +43,14 @@ module _ {S M R : Type 0} (next : S → ℕ → ℕ → M → S) (reply : S → 
   reply_at_push start [] e = refl
   reply_at_push start (x ∷ history) e = reply_at_push (next start x.caller x.moment x.command) history e
 
-  -- so what a caller is told stays the reply to its entry
+  -- the reply to an entry stays the same
   pub reply_to_append : (start : S) (history tail : List (Entry M)) (caller : ℕ) (told : Told R) → IsReplyTo next start reply history caller told → IsReplyTo next start reply (history ++ tail) caller told
   reply_to_append start history tail caller told is = record {
     caller = caller_at_append history tail told.at caller is.caller;
     reply_is = reply_at_append start history tail told.at told.reply is.reply_is;
   }
 
-  -- and an entry that comes is told by the fold of those in front of it
+  -- a new entry is told the reply after the earlier entries
   pub reply_to_push : (start : S) (history : List (Entry M)) (e : Entry M) (told : Told R) → told.at ≡ length history
       → told.reply ≡ reply (fold next start history) e.caller e.moment e.command → IsReplyTo next start reply (history ++ e ∷ []) e.caller told
   reply_to_push start history e told at is = record {

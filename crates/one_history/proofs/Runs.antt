@@ -1,10 +1,11 @@
 -- Runs of the core, by induction on their steps.
-use Rattle.std.proofs.Common.{◌≡◌, ℕ, ◌+◌, ◌<◌, ◌≤◌, Bool, true, false, ◌⊎◌, inl, inr, List, [], ◌∷◌, ◌++◌, length, nat_eq, not, Contains, Some, None, Ok, Err, refl, sym, ◌∙◌, ap, subst, append_assoc, length-append, true≢false, arith}
-use Rattle.std.specs.List.{IsDistinct, AllByRecursion, AllZip, cons_option, filter_map}
+use Rattle.std.proofs.Common.{◌≡◌, ℕ, ◌+◌, ◌<◌, ◌≤◌, Bool, true, false, ◌⊎◌, inl, inr, List, [], ◌∷◌, ◌++◌, length, nat_eq, not, All, Contains, Some, None, Ok, Err, refl, sym, ◌∙◌, ap, subst, append_assoc, length-append, true≢false, arith}
+use Rattle.std.specs.List.{IsDistinct, AllZip, cons_option, filter_map}
 use Rattle.std.specs.Map.{values_of, lookup}
 use Rattle.std.proofs.lemmas.Bool.{eqb-true, eq-eqb}
 use Rattle.std.proofs.lemmas.List.{append-nil}
-use Rattle.std.proofs.lemmas.List.Elements.{All-push, All-filter, All-weaker}
+use Rattle.std.proofs.lemmas.List.Elements.{All-cons, All-push, All-filter, All-weaker, Contains-get_or, Contains-append_right}
+use Rattle.std.proofs.lemmas.Map.Made.{IsDistinct-keys_filter}
 use Rattle.one_history.specs.declared.entry.Entry.{Entry}
 use Rattle.one_history.specs.declared.entry.Told.{Told}
 use Rattle.one_history.specs.declared.steps.Step.{Step}
@@ -15,7 +16,7 @@ use Rattle.one_history.specs.Core.{Core, IsCore, place_of}
 use Rattle.one_history.specs.CoreRun.{CoreStep, IsCoreRun, IsOutcomeIn, AnswersOnce, place_answered, places_told}
 use Rattle.one_history.specs.History.{entry_of, caller_at}
 use Rattle.one_history.proofs.Places.{caller_at_append, caller_at_push, caller_at_within, slice_get_append, slice_get_push, reply_to_append}
-use Rattle.one_history.proofs.Waiting.{contains_head, contains_tail, found_among, lookup_push, lookup_push_cases, lookup_pushed, lookup_without, lookup_others, own_found, each_found, places_distinct, all_weaker, keys_push, keys_filter}
+use Rattle.one_history.proofs.Waiting.{found_among, lookup_push, lookup_push_cases, lookup_pushed, lookup_without, lookup_others, own_found, each_found, recursive, places_distinct, keys_push}
 
 -- the lists of a loop over steps: as many outcomes as steps were taken, and these with the rest are all
 pub as_many : {X Y : Type 0} (xs : List X) (ys : List Y) (x : X) (y : Y) (zs : List X) → zs ≡ xs ++ x ∷ [] → length xs ≡ length ys → length zs ≡ length (ys ++ y ∷ [])
@@ -28,12 +29,12 @@ all_taken : {X : Type 0} (taken rest all : List X) → length rest ≡ 0 → tak
 all_taken taken [] all none whole = sym (append-nil taken) ∙ whole
 all_taken taken (x ∷ rest) all none whole = absurd (omega (arith, none))
 
--- a place for whose event somebody waits
+-- a place whose event waits for an answer
 abbrev Waits : {M : Type 0} → Core M → ℕ → Type 0
 Waits core place = (caller : ℕ) × (place_of caller core ≡ Some place)
 
 module _ {S M R : Type 0} (next : S → ℕ → ℕ → M → S) (start : S) (reply : S → ℕ → ℕ → M → R) where
-  -- a step keeps what always holds
+  -- a step keeps the invariant
   step_core : (core : Core M) (step : Step M) (outcome : Outcome R) (after : Core M) → CoreStep next start reply core step outcome after → IsCore core → IsCore after
   step_core core (Event caller moment command) (Placed (Ok at)) after is old = rw is.3 (record {
     once = keys_push caller (length core.history) core.waiting is.0 old.once;
@@ -45,7 +46,7 @@ module _ {S M R : Type 0} (next : S → ℕ → ℕ → M → S) (start : S) (re
   step_core core (Event caller moment command) (Placed (Err refusal)) after is old = rw is.1 old
   step_core core (Event caller moment command) (Answered told) after is old = absurd is
   step_core core (Answer caller) (Answered (Some told)) after is old = rw is.2 (record {
-    once = keys_filter (λ w. not (nat_eq caller w.0)) core.waiting old.once;
+    once = IsDistinct-keys_filter nat_eq (λ w. not (nat_eq caller w.0)) core.waiting old.once;
     own = All-filter (λ w. not (nat_eq caller w.0)) (λ w. caller_at core.history w.1 ≡ Some w.0) core.waiting old.own;
   })
   step_core core (Answer caller) (Answered None) after is old = rw is.1 old
@@ -87,7 +88,7 @@ module _ {S M R : Type 0} (next : S → ℕ → ℕ → M → S) (start : S) (re
   outcome_here core (Answer caller) (Answered None) after is old = tt
   outcome_here core (Answer caller) (Placed at) after is old = absurd is
 
-  -- and in each later one
+  -- an outcome also holds in a longer history
   outcome_append : (history tail : List (Entry M)) (step : Step M) (outcome : Outcome R) → IsOutcomeIn next start reply history step outcome → IsOutcomeIn next start reply (history ++ tail) step outcome
   outcome_append history tail (Event caller moment command) (Placed (Ok at)) is = slice_get_append history tail at (entry_of caller moment command) is
   outcome_append history tail (Event caller moment command) (Placed (Err refusal)) is = tt
@@ -96,7 +97,7 @@ module _ {S M R : Type 0} (next : S → ℕ → ℕ → M → S) (start : S) (re
   outcome_append history tail (Answer caller) (Answered None) is = tt
   outcome_append history tail (Answer caller) (Placed at) is = absurd is
 
-  -- so all outcomes hold in the history at the end
+  -- all outcomes hold in the history at the end
   run_outcomes : (steps : List (Step M)) (outcomes : List (Outcome R)) (core after : Core M) → IsCore core → IsCoreRun next start reply core steps outcomes after
       → AllZip (IsOutcomeIn next start reply after.history) steps outcomes
   unfolding IsCoreRun
@@ -131,7 +132,7 @@ module _ {S M R : Type 0} (next : S → ℕ → ℕ → M → S) (start : S) (re
   run_push (s ∷ steps) (o ∷ outcomes) core middle step outcome after (first, step_first, rest) one =
       (first, step_first, run_push steps outcomes first middle step outcome after rest one)
 
-  -- a place for which somebody waits after a step was waited for before it, or came with it
+  -- a place that waits after a step waited before it, or came with it
   waits_before : (core : Core M) (step : Step M) (outcome : Outcome R) (after : Core M) → CoreStep next start reply core step outcome after → (place : ℕ)
       → Waits after place ⊎ (length after.history ≤ place) → Waits core place ⊎ (length core.history ≤ place)
   waits_before core (Event caller moment command) (Placed (Ok at)) after is place (inl (other, found)) =
@@ -151,7 +152,7 @@ module _ {S M R : Type 0} (next : S → ℕ → ℕ → M → S) (start : S) (re
   waits_before core (Answer caller) (Answered None) after is place waits = rw (← is.1) waits
   waits_before core (Answer caller) (Placed at) after is place waits = absurd is
 
-  -- a place that is waited for before a step, or comes with it or later, is waited for after it, comes later, or is answered by it
+  -- a place that waits before a step, or comes with it or later, waits after it, comes later, or is answered by it
   waits_after : (core : Core M) (step : Step M) (outcome : Outcome R) (after : Core M) → CoreStep next start reply core step outcome after → (place : ℕ)
       → Waits core place ⊎ (length core.history ≤ place) → (Waits after place ⊎ (length after.history ≤ place)) ⊎ (place_answered outcome ≡ Some place)
   waits_after core (Event caller moment command) (Placed (Ok at)) after is place (inl (other, found)) =
@@ -180,7 +181,7 @@ module _ {S M R : Type 0} (next : S → ℕ → ℕ → M → S) (start : S) (re
   waits_after core (Answer caller) (Answered None) after is place waits = inl (rw is.1 waits)
   waits_after core (Answer caller) (Placed at) after is place waits = absurd is
 
-  -- another place than the one that is answered is waited for after an answer, or comes later
+  -- a place that waits after an answer, or comes later, is not the one that was answered
   answered_apart : (core : Core M) (caller : ℕ) (told : Told R) (after : Core M) → CoreStep next start reply core (Answer caller) (Answered (Some told)) after → IsCore core
       → (place : ℕ) → Waits after place ⊎ (length after.history ≤ place) → nat_eq told.at place ≡ false
   answered_apart core caller told after is old place waits = by (nat_eq told.at place) refl waits
@@ -203,41 +204,44 @@ module _ {S M R : Type 0} (next : S → ℕ → ℕ → M → S) (start : S) (re
           absurd (omega (arith, within, e, later))
       by false apart waits = apart
 
-  -- the places that are told after a step are the one that it answers, if any, and those that are told later
+  -- the places that are answered from a step on are distinct, and each waited before the step or comes later
+  abbrev Later : Core M → ℕ → Type 0
+  Later core place = Waits core place ⊎ (length core.history ≤ place)
+
   abbrev Once : List (Outcome R) → Core M → Core M → Type 0
   Once outcomes core after =
-      IsDistinct nat_eq (places_told outcomes after) × AllByRecursion (λ place. Waits core place ⊎ (length core.history ≤ place)) (places_told outcomes after)
+      IsDistinct nat_eq (places_told outcomes after) × All (Later core) (places_told outcomes after)
 
   step_once : (core : Core M) (step : Step M) (outcome : Outcome R) (middle : Core M) (outcomes : List (Outcome R)) (after : Core M)
       → CoreStep next start reply core step outcome middle → IsCore core → Once outcomes middle after → Once (outcome ∷ outcomes) core after
   unfolding IsDistinct
   step_once core (Event caller moment command) (Placed at) middle outcomes after is old rest =
-      (rest.0, all_weaker _ (λ place. Waits core place ⊎ (length core.history ≤ place)) (waits_before core (Event caller moment command) (Placed at) middle is) (places_told outcomes after) rest.1)
+      (rest.0, All-weaker (Later middle) (Later core) (waits_before core (Event caller moment command) (Placed at) middle is) (places_told outcomes after) rest.1)
   step_once core (Event caller moment command) (Answered told) middle outcomes after is old rest = absurd is
   step_once core (Answer caller) (Answered (Some told)) middle outcomes after is old rest = (
-    (all_weaker _ (λ place. nat_eq told.at place ≡ false) (answered_apart core caller told middle is old) (places_told outcomes after) rest.1, rest.0),
-    (inl (caller, is.0), all_weaker _ (λ place. Waits core place ⊎ (length core.history ≤ place)) (waits_before core (Answer caller) (Answered (Some told)) middle is) (places_told outcomes after) rest.1),
+    (recursive _ (places_told outcomes after) (All-weaker (Later middle) (λ place. nat_eq told.at place ≡ false) (answered_apart core caller told middle is old) (places_told outcomes after) rest.1), rest.0),
+    All-cons (Later core) told.at (places_told outcomes after) (inl (caller, is.0)) (All-weaker (Later middle) (Later core) (waits_before core (Answer caller) (Answered (Some told)) middle is) (places_told outcomes after) rest.1),
   )
   step_once core (Answer caller) (Answered None) middle outcomes after is old rest =
-      (rest.0, all_weaker _ (λ place. Waits core place ⊎ (length core.history ≤ place)) (waits_before core (Answer caller) (Answered None) middle is) (places_told outcomes after) rest.1)
+      (rest.0, All-weaker (Later middle) (Later core) (waits_before core (Answer caller) (Answered None) middle is) (places_told outcomes after) rest.1)
   step_once core (Answer caller) (Placed at) middle outcomes after is old rest = absurd is
 
   run_once : (steps : List (Step M)) (outcomes : List (Outcome R)) (core after : Core M) → IsCore core → IsCoreRun next start reply core steps outcomes after → Once outcomes core after
   unfolding IsCoreRun
   run_once [] [] core after old is = rw is (
     places_distinct core.history core.waiting old.once old.own,
-    all_weaker (Waits core) (λ place. Waits core place ⊎ (length core.history ≤ place)) (λ place waits. inl waits) (values_of core.waiting) (each_found core.waiting old.once),
+    All-weaker (Waits core) (Later core) (λ place waits. inl waits) (values_of core.waiting) (each_found core.waiting old.once),
   )
   run_once [] (o ∷ outcomes) core after old is = absurd is
   run_once (s ∷ steps) [] core after old is = absurd is
   run_once (s ∷ steps) (o ∷ outcomes) core after old (middle, step, rest) =
       step_once core s o middle outcomes after step old (run_once steps outcomes middle after (step_core core s o middle step old) rest)
 
-  -- a place that is waited for, or comes, is told or still waits at the end
+  -- a place that waits, or comes, is answered or still waits at the end
   run_keeps : (steps : List (Step M)) (outcomes : List (Outcome R)) (core after : Core M) → IsCoreRun next start reply core steps outcomes after → (place : ℕ) → place < length after.history
       → Waits core place ⊎ (length core.history ≤ place) → Contains (places_told outcomes after) place
   unfolding IsCoreRun
-  run_keeps [] [] core after is place within (inl (caller, found)) = rw is (found_among (nat_eq caller) core.waiting place found)
+  run_keeps [] [] core after is place within (inl (caller, found)) = rw is (found_among caller core.waiting place found)
   run_keeps [] [] core after is place within (inr late) = let same = ap (λ c. length c.history) is in absurd (omega (arith, same, late, within))
   run_keeps [] (o ∷ outcomes) core after is place within waits = absurd is
   run_keeps (s ∷ steps) [] core after is place within waits = absurd is
@@ -248,8 +252,8 @@ module _ {S M R : Type 0} (next : S → ℕ → ℕ → M → S) (start : S) (re
           → (Waits middle place ⊎ (length middle.history ≤ place) → Contains (places_told outcomes after) place) → Contains (places_told (o ∷ outcomes) after) place
       by (inl waits) later =
           elim (place_answered o) as (λ x. Contains (cons_option x (filter_map place_answered outcomes) ++ values_of after.waiting) place)
-          [ Some q ↦ contains_tail q (places_told outcomes after) place (later waits) | None ↦ later waits ]
-      by (inr told) later = rw told (contains_head place (places_told outcomes after))
+          [ Some q ↦ Contains-append_right (q ∷ []) (places_told outcomes after) place (later waits) | None ↦ later waits ]
+      by (inr told) later = rw told (Contains-get_or (place ∷ places_told outcomes after) 0 place (omega arith))
 
   -- each event of a run is answered once, or still waits
   pub run_answers : (steps : List (Step M)) (outcomes : List (Outcome R)) (core after : Core M) → IsCore core → IsCoreRun next start reply core steps outcomes after → AnswersOnce core outcomes after

@@ -11,7 +11,7 @@ pub record Core (M : Type 0) : Type 0 where
   pub waiting : List (ℕ × ℕ)
 
 module _ {M : Type 0} where
-  -- at the beginning
+  -- before any event
   abbrev pub new_core : Core M
   new_core = record { history = []; waiting = [] }
 
@@ -26,14 +26,14 @@ module _ {M : Type 0} where
     waiting = core.waiting ++ (caller, length core.history) ∷ [];
   }
 
-  -- a caller waits no longer, and the others as before
+  -- the caller no longer waits; the others wait as before
   abbrev pub after_answer : ℕ → Core M → Core M
   after_answer caller core = record {
     history = core.history;
     waiting = filter (λ w. not (nat_eq caller w.0)) core.waiting;
   }
 
-  -- what always holds: no caller waits twice, and each waits for the answer to an entry of its own
+  -- the invariant: no caller waits twice, and each waits for the answer to an entry of its own
   pub record IsCore (core : Core M) : Type 0 where
     pub once : IsDistinct nat_eq (keys_of core.waiting)
     pub own : All (λ w. caller_at core.history w.1 ≡ Some w.0) core.waiting

@@ -1,4 +1,4 @@
--- The steps of the core, and its runs: any list of steps, with what each caller is told.
+-- The steps of the core, and its runs: any list of steps, with the outcome of each.
 use Rattle.std.specs.Prelude.{◌≡◌, ℕ, ◌<◌, ◌≤◌, List, [], ◌∷◌, ◌++◌, length, nat_eq, slice_get, Contains, Option, Some, None, Ok, Err}
 use Rattle.std.specs.List.{IsDistinct, AllZip, filter_map}
 use Rattle.std.specs.Map.{values_of}
@@ -13,8 +13,8 @@ use Rattle.one_history.specs.History.{entry_of, reply_at, IsReplyTo}
 use Rattle.one_history.specs.Refusals.{RefusesEvent}
 
 module _ {S M R : Type 0} (next : S → ℕ → ℕ → M → S) (start : S) (reply : S → ℕ → ℕ → M → R) where
-  -- one step takes a state to the next and tells its caller this: an event has the place behind all others, and an answer
-  -- is the reply at the place of its caller's event; a refused event, and an answer for which nobody waits, change nothing
+  -- one step from a state to the next, with its outcome: an event gets the place after all others, and an answer is the
+  -- reply at the place of its caller's event; a refused event, and an answer that nobody waits for, change nothing
   abbrev pub CoreStep : Core M → Step M → Outcome R → Core M → Type 0
   CoreStep core (Event caller moment command) (Placed (Ok at)) after =
       (place_of caller core ≡ None) × (length core.history < JOURNAL_MAX) × (at ≡ length core.history) × (after ≡ after_event caller moment command core)
@@ -24,14 +24,14 @@ module _ {S M R : Type 0} (next : S → ℕ → ℕ → M → S) (start : S) (re
   CoreStep core (Answer caller) (Answered None) after = (place_of caller core ≡ None) × (after ≡ core)
   CoreStep core _ _ after = ⊥
 
-  -- these steps with these outcomes, one after another, take a state to another
+  -- these steps with these outcomes, one after another, lead from a state to another
   unfoldable pub IsCoreRun : Core M → List (Step M) → List (Outcome R) → Core M → Type 0
   IsCoreRun core [] [] after = after ≡ core
   IsCoreRun core (step ∷ steps) (outcome ∷ outcomes) after = (middle : Core M) × CoreStep core step outcome middle × IsCoreRun middle steps outcomes after
   IsCoreRun core _ _ after = ⊥
 
-  -- read in a history: an event stands as it came at the place that its caller was told, and an answer is the reply to an
-  -- entry of its caller, at the entry's place
+  -- an outcome holds in a history: a committed event is the entry at its place, and an answer is the reply to an entry of
+  -- its caller, at the entry's place
   abbrev pub IsOutcomeIn : List (Entry M) → Step M → Outcome R → Type 0
   IsOutcomeIn history (Event caller moment command) (Placed (Ok at)) = slice_get history at ≡ Some (entry_of caller moment command)
   IsOutcomeIn history (Event caller moment command) (Placed (Err refusal)) = Unit {0}
@@ -42,12 +42,12 @@ module _ {S M R : Type 0} (next : S → ℕ → ℕ → M → S) (start : S) (re
   abbrev pub AreOutcomesIn : List (Entry M) → List (Step M) → List (Outcome R) → Type 0
   AreOutcomesIn history steps outcomes = AllZip (IsOutcomeIn history) steps outcomes
 
--- a step's command is good
+-- the command of the step is good
 abbrev pub IsGoodStep : {M : Type 0} → (M → Type 0) → Step M → Type 0
 IsGoodStep IsGood (Event caller moment command) = IsGood command
 IsGoodStep IsGood (Answer caller) = Unit {0}
 
--- the place of the event that is answered, if one is
+-- the place of the event that is answered, if any
 abbrev pub place_answered : {R : Type 0} → Outcome R → Option ℕ
 place_answered (Answered (Some told)) = Some told.at
 place_answered _ = None
@@ -58,9 +58,9 @@ places_told outcomes after = filter_map place_answered outcomes ++ values_of aft
 
 -- each event is answered once, or still waits
 pub record AnswersOnce {M R : Type 0} (before : Core M) (outcomes : List (Outcome R)) (after : Core M) : Type 0 where
-  -- no event is answered twice, nor does one that was answered still wait
+  -- no event is answered twice, and no answered event still waits
   pub once : IsDistinct nat_eq (places_told outcomes after)
-  -- none that waited is lost
+  -- no event that waited before is lost
   pub waited : (caller place : ℕ) → place_of caller before ≡ Some place → Contains (places_told outcomes after) place
-  -- none that came is lost
+  -- no event that was committed is lost
   pub came : (place : ℕ) → length before.history ≤ place → place < length after.history → Contains (places_told outcomes after) place

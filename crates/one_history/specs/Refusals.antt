@@ -1,4 +1,4 @@
--- When a journal refuses an entry, and a machine an event.
+-- When a journal refuses an entry, and when a machine refuses an event.
 use Rattle.std.specs.Prelude.{◌≡◌, ℕ, length, Some, None}
 use Rattle.one_history.specs.declared.journal.JournalRefusal.{JournalRefusal}
 use Rattle.one_history.specs.declared.journal.JournalRefusal.TheVariants.{Full, NoMemory}
@@ -7,12 +7,12 @@ use Rattle.one_history.specs.declared.machine.MachineRefusal.{MachineRefusal}
 use Rattle.one_history.specs.declared.machine.MachineRefusal.TheVariants.{Unanswered, Full as FullMachine, NoMemory as NoMemoryForEvent}
 use Rattle.one_history.specs.Core.{Core, place_of}
 
--- a journal with so many entries refuses one more
+-- a journal with this number of entries refuses one more
 abbrev pub Refuses : ℕ → JournalRefusal → Type 0
 Refuses entries (Full length) = (length ≡ entries) × (entries ≡ JOURNAL_MAX)
 Refuses entries NoMemory = Unit {0}
 
--- what a journal's refusal is to the caller of an event
+-- the refusal of an event for a refusal of the journal
 abbrev pub event_refusal : JournalRefusal → MachineRefusal
 event_refusal (Full length) = FullMachine length
 event_refusal NoMemory = NoMemoryForEvent

@@ -1,4 +1,4 @@
-/// One entry of a history: a caller's number, a moment and the command that the caller gave then.
+/// One entry of a history: a caller's number, a moment, and the caller's command at that moment.
 #[derive(Clone, Copy, Debug, Drop, PartialEq, Eq)]
 pub struct Entry<M> {
     pub caller: u32,
@@ -6,7 +6,7 @@ pub struct Entry<M> {
     pub command: M,
 }
 
-/// What a caller is told of its entry: the place at which the entry stands in the history, from 0, and the reply to it.
+/// What a caller is told about its entry: its place in the history, from 0, and the reply.
 #[derive(Clone, Copy, Debug, Drop, PartialEq, Eq)]
 pub struct Told<R> {
     pub at: u64,

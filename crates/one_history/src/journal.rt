@@ -7,7 +7,7 @@ use plan_base::NoMemory;
 use std::alloc::{AllocError, Global};
 use std::marker::Model;
 
-/// The most entries that a journal holds.
+/// The greatest number of entries in a journal.
 pub const JOURNAL_MAX: u64 = 4_194_304;
 
 /// Why an entry was not committed.
@@ -15,7 +15,7 @@ pub const JOURNAL_MAX: u64 = 4_194_304;
 pub enum JournalRefusal {
     /// The journal has `JOURNAL_MAX` entries, which is this length.
     Full { length: u64 },
-    /// There was no memory for the entry, or for what its command does.
+    /// Out of memory, for the entry or in the step of its command.
     NoMemory,
 }
 
@@ -41,9 +41,9 @@ impl From<NoMemory> for JournalRefusal {
     }
 }
 
-/// A history with the object that it makes. Contracts see the list of its entries, oldest first.
+/// A history with the object after it. Contracts see the list of the entries, oldest first.
 ///
-/// The object is the fold of the entries, there are at most `JOURNAL_MAX` of them, and each command is good.
+/// The object is the fold of the entries. There are at most `JOURNAL_MAX` entries, and each command is good.
 #[derive(Drop)]
 pub struct Journal<O: Object> {
     alloc: Global,
@@ -65,7 +65,7 @@ impl<O: Object> Model for Journal<O> {
 }
 
 impl<O: Object> Journal<O> {
-    /// No entries, and the fresh object.
+    /// A journal without entries, with the fresh object.
     pub fn open(alloc: Global) -> Result<Journal<O>, NoMemory>
         ensures { IfOk result (λ j. j ≡ []) }
     {
@@ -77,9 +77,9 @@ impl<O: Object> Journal<O> {
         })
     }
 
-    /// Appends an entry: the object takes the step, and the caller is told the entry's place and its reply.
+    /// Appends an entry: the object takes the step. Returns the place of the entry and the reply.
     ///
-    /// Refuses with `Full` exactly at `JOURNAL_MAX` entries. After a refusal the journal is as it was.
+    /// Refuses with `Full` if and only if there are `JOURNAL_MAX` entries. A refusal leaves the journal unchanged.
     pub fn commit(
         &mut self,
         caller: u32,
@@ -89,6 +89,7 @@ impl<O: Object> Journal<O> {
     where
         O::Command: Drop,
         requires { O.good command }
+        ensures limit { JOURNAL_MAX ≡ 4194304 }
         ensures room { OnOk result (length self.old < JOURNAL_MAX) }
         ensures at { IfOk result (λ t. t.at ≡ length self.old) }
         ensures reply { IfOk result (λ t. t.reply ≡ O.reply (fold O.next O.start self.old) caller moment command) }

@@ -1,5 +1,5 @@
-//! The history of a value that commands change one at a time: the journal keeps the entries and the value that they make,
-//! and the machine answers each caller with the reply at its entry's place. Both rules are this project's own.
+//! The history of a value that commands change one at a time, and the replies to the callers.
+//! A journal keeps the entries and the value after them. A machine also keeps each reply until its caller takes it.
 #![tactic(auto)]
 
 mod entry;

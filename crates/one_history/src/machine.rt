@@ -16,7 +16,7 @@ pub enum MachineRefusal {
     Unanswered { at: u64 },
     /// The history has `JOURNAL_MAX` entries, which is this length.
     Full { length: u64 },
-    /// There was no memory for the entry, for the reply that waits, or for what the command does.
+    /// Out of memory, for the entry, for its reply, or in the step of its command.
     NoMemory,
 }
 
@@ -45,10 +45,10 @@ impl From<JournalRefusal> for MachineRefusal {
     }
 }
 
-/// The pure core: a journal, and the reply that is kept for each caller whose event has no answer yet.
+/// A journal, and the reply that is kept for each caller whose event has no answer yet.
 ///
 /// Contracts see the history, and the callers that wait with the places of their events, in the order of these events.
-/// No caller waits twice, and what is kept for one is the reply at the place of an entry of its own.
+/// No caller waits twice, and the reply that is kept for a caller is the one at the place of an entry of its own.
 #[derive(Drop)]
 pub struct Machine<O: Object> {
     journal: Journal<O>,
@@ -68,7 +68,7 @@ impl<O: Object> Model for Machine<O> {
 }
 
 impl<O: Object> Machine<O> {
-    /// No entries, and nobody waits.
+    /// A machine without entries, for which nobody waits.
     pub fn open(alloc: Global) -> Result<Machine<O>, NoMemory>
         ensures { IfOk result (λ m. m ≡ new_core) }
     {
@@ -79,10 +79,10 @@ impl<O: Object> Machine<O> {
         })
     }
 
-    /// Commits an event, keeps its reply for the caller, and gives its place in the history.
+    /// Commits an event, keeps its reply for the caller, and returns its place in the history.
     ///
-    /// Refuses first with `Unanswered`, exactly where the caller waits for an answer, then with `Full`, exactly at
-    /// `JOURNAL_MAX` entries. After a refusal the machine is as it was.
+    /// Refuses first with `Unanswered`, if and only if the caller waits for an answer, then with `Full`, if and only if there
+    /// are `JOURNAL_MAX` entries. A refusal leaves the machine unchanged.
     pub fn event(
         &mut self,
         caller: u32,
@@ -110,9 +110,9 @@ impl<O: Object> Machine<O> {
         Ok(at)
     }
 
-    /// Hands out the reply that is kept for a caller, which then waits no longer. Takes no memory.
+    /// Removes and returns the reply that is kept for a caller, which then no longer waits. Allocates nothing.
     ///
-    /// `None` comes exactly where the caller has no event without an answer, and leaves the machine as it was.
+    /// Returns `None` if and only if the caller has no event without an answer; then the machine is unchanged.
     pub fn answer(&mut self, caller: u32) -> Option<Told<O::Reply>>
         ensures waits { IfSome result (λ t. place_of caller self.old ≡ Some t.at) }
         ensures reply { IfSome result (λ t. reply_at O.next O.start O.reply self.old.history t.at ≡ Some t.reply) }
@@ -123,7 +123,7 @@ impl<O: Object> Machine<O> {
         self.kept.shift_remove(&caller)
     }
 
-    /// The history, with the object that it makes.
+    /// The history, with the object after it.
     pub fn journal(&self) -> &Journal<O>
         ensures history { result.now ≡ self.now.history }
         ensures waiting { IsCore self.now }

@@ -3,10 +3,10 @@ ghost use Rattle.std.specs.Prelude.{◌≡◌, ℕ, IfOk, OnErr};
 use plan_base::NoMemory;
 use std::alloc::Global;
 
-/// A value that commands change one at a time, each with a reply of its own.
+/// A value that commands change one at a time, with a reply to each.
 ///
-/// What a command does is a function of the value, the caller's number, the moment and the command: `next` is the value
-/// after it, and `reply` what its caller is told. A journal keeps the commands, so each of them has to be `good`.
+/// The effect of a command is a function of the value, the caller's number, the moment and the command: `next` is the value
+/// after it, and `reply` is the reply to its caller. A journal keeps the commands, so each of them has to be `good`.
 pub trait Object: Sized {
     /// What a caller asks for.
     type Command;
@@ -26,7 +26,7 @@ pub trait Object: Sized {
     fn fresh(alloc: Global) -> Result<Self, NoMemory>
         ensures { IfOk result (λ o. o ≡ start) };
 
-    /// Does a command, in the name of a caller and at a moment. Where memory is wanting, nothing has changed.
+    /// Does a command of a caller at a moment. When out of memory, nothing has changed.
     fn step(
         &mut self,
         alloc: Global,

@@ -20,7 +20,7 @@ pub enum Step<M> {
     },
 }
 
-/// What the caller of a step is told.
+/// The outcome of a step, for its caller.
 #[derive(Clone, Copy, Debug, Drop, PartialEq, Eq)]
 pub enum Outcome<R> {
     /// The place of the event, or why it was not committed.
@@ -29,7 +29,7 @@ pub enum Outcome<R> {
     Answered(Option<Told<R>>),
 }
 
-/// Takes one step on a machine, which is one step of the core. Where the step is refused, the machine is as it was.
+/// Takes one step on a machine. A refused step leaves the machine unchanged.
 pub fn take_step<O: Object>(machine: &mut Machine<O>, step: Step<O::Command>) -> Outcome<O::Reply>
 where
     O::Command: Drop,
@@ -46,10 +46,10 @@ where
     }
 }
 
-/// Plays a list of steps on a machine, and gives the outcome of each.
+/// Takes a list of steps on a machine, and returns the outcome of each.
 ///
 /// Whatever the steps are, each answer is the reply at its event's place in the history, and each event is answered once
-/// or still waits. Memory for the outcomes is taken first: where it is wanting, the machine is as it was.
+/// or still waits. Allocates the outcomes first: when out of memory, the machine is unchanged.
 pub fn play<O: Object>(
     alloc: Global,
     machine: &mut Machine<O>,

@@ -1,5 +1,6 @@
 pub mod Values
 pub mod Chains
 pub mod Least
+pub mod Members
 pub mod Trips
 pub mod Paths

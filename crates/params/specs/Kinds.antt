@@ -1,4 +1,4 @@
--- The good values of parameters.
+-- The good values of each kind of parameter.
 use Rattle.std.specs.Prelude.{ℕ, ◌&&◌, ℤ, pos, negsuc, List, [], ◌∷◌, Bool, nat_le, int_le, codes, bytes_eq, Option, Some, None, option_and_then, if◌then◌else◌}
 use Rattle.serde_json.specs.Data.{Data, string, Items, no_items, item}
 use Rattle.serde_json.specs.Events.{items_len}
@@ -12,7 +12,7 @@ use Rattle.askrene_command.specs.declared.command.TheConstants.{PATH_MAX}
 use Rattle.askrene_command.specs.declared.command.Inform.{Inform}
 use Rattle.askrene_command.specs.declared.command.Inform.TheVariants.{Constrained, Unconstrained, Succeeded}
 
--- a layer: a text of 1 to 64 bytes that doesn't begin with `auto.`
+-- the name of a layer: a string of 1 to 64 bytes that does not begin with `auto.`
 abbrev pub name_of : List ℕ → Option (List ℕ)
 name_of text = if is_good_name text then Some text else None
 
@@ -27,7 +27,7 @@ node_value value = option_and_then node_id_of (as_str value)
 unfoldable pub dir_value : Data → Option Direction
 dir_value value = option_and_then dir_of (as_str value)
 
--- what was learnt, as one of three words
+-- an inform: one of three words
 abbrev pub inform_of : List ℕ → Option Inform
 inform_of text =
     if bytes_eq text (codes "constrained") then Some Constrained
@@ -42,18 +42,18 @@ inform_value value = option_and_then inform_of (as_str value)
 unfoldable pub flag_value : Data → Option Bool
 flag_value value = as_bool value
 
--- a whole number that isn't below 0 and fits 64 bits
+-- an integer that fits u64
 unfoldable pub whole_value : Data → Option ℕ
 whole_value value = option_and_then as_u64 (as_number value)
 
 abbrev pub at_most : ℕ → ℕ → Option ℕ
 at_most limit n = if nat_le n limit then Some n else None
 
--- a whole number of at most a limit
+-- an integer from 0 to a limit
 unfoldable pub whole_up_to : ℕ → Data → Option ℕ
 whole_up_to limit value = option_and_then (at_most limit) (whole_value value)
 
--- an amount: a whole number, or the text of an amount
+-- an amount: an integer, or the text of an amount
 unfoldable pub amount_value : Data → Option ℕ
 amount_value (string text) = msat_of text
 amount_value value = option_and_then at_most_max (whole_value value)
@@ -62,14 +62,14 @@ amount_value value = option_and_then at_most_max (whole_value value)
 unfoldable pub amount_up_to : ℕ → Data → Option ℕ
 amount_up_to limit value = option_and_then (at_most limit) (amount_value value)
 
--- a whole number from -100 to 100
+-- an integer from -100 to 100
 abbrev pub percent_of : ℤ → Option ℤ
 percent_of z = if int_le (negsuc 99) z && int_le z (pos 100) then Some z else None
 
 unfoldable pub percent_value : Data → Option ℤ
 percent_value value = option_and_then percent_of (option_and_then as_i64 (as_number value))
 
--- an item of a path: an object with a direction and an amount, whatever else it has
+-- an item of a path: an object with a direction and an amount; other members are ignored
 abbrev pub held_from : Option Direction → Option ℕ → Option Held
 held_from (Some dir) (Some amount) = Some (record { dir = dir; amount = amount })
 held_from _ _ = None
@@ -79,7 +79,7 @@ held_value value =
     held_from (option_and_then dir_value (get (codes "short_channel_id_dir") value))
     (option_and_then amount_value (get (codes "amount_msat") value))
 
--- items of a path, each of which is good
+-- the items of a path, if all are good
 abbrev pub in_front : Option Held → Option (List Held) → Option (List Held)
 in_front (Some held) (Some others) = Some (held ∷ others)
 in_front _ _ = None
@@ -88,7 +88,7 @@ unfoldable pub helds_of : Items → Option (List Held)
 helds_of no_items = Some []
 helds_of (item value values) = in_front (held_value value) (helds_of values)
 
--- a path: an array of 1 to PATH_MAX items, each of which is good
+-- a path: an array of 1 to PATH_MAX items, all of them good
 abbrev pub is_path_length : ℕ → Bool
 is_path_length count = nat_le 1 count && nat_le count PATH_MAX
 

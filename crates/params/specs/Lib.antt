@@ -1,5 +1,6 @@
 pub mod Parameters
 pub mod Kinds
+pub mod Tables
 pub mod Methods
 pub mod Printed
 pub mod Fault

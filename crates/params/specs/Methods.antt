@@ -1,55 +1,44 @@
--- The methods: the table of parameters of each, and the command that its parameters make. What is refused first is named:
--- too many items, then the first parameter of the table that is absent or bad, then the method's own rule, then an
--- unknown name.
-use Rattle.std.specs.Prelude.{ℕ, ◌==◌, List, [], ◌∷◌, Bool, false, codes, bytes_eq, Option, Some, None, Result, if◌then◌else◌}
+-- The methods: the command that the parameters of each give. The first refusal in this order names the parameter at fault:
+-- too many items, then the first parameter of the table that is missing or bad, then the method's own rule, then an unknown
+-- name.
+use Rattle.std.specs.Prelude.{ℕ, List, [], get_or, bytes_eq, Option, Some, None, Result, if◌then◌else◌}
 use Rattle.serde_json.specs.Data.{Data}
+use Rattle.plan_base.specs.Dir.{Direction}
+use Rattle.plan_base.specs.declared.held.Held.{Held}
+use Rattle.askrene_command.specs.Command.{is_impossible}
 use Rattle.askrene_command.specs.declared.command.Command.{Command}
 use Rattle.askrene_command.specs.declared.command.Command.TheVariants.{CreateLayer, RemoveLayer, ListLayers, UpdateChannel, InformChannel, BiasChannel, DisableNode, Age, Reserve, Unreserve, ListReservations}
-use Rattle.askrene_command.specs.declared.command.Inform.{Inform}
-use Rattle.askrene_command.specs.declared.command.Inform.TheVariants.{Constrained, Unconstrained, Succeeded}
+use Rattle.params.specs.declared.names.TheConstants as names
+use Rattle.params.specs.Tables.{layer_table, update_table, inform_table, bias_table, node_table, age_table, path_table, empty_table}
 use Rattle.params.specs.Parameters.{needs, may_have, unless_long, refused_if, if_known}
 use Rattle.params.specs.Kinds.{name_value, node_value, dir_value, inform_value, flag_value, whole_value, whole_up_to, amount_value, amount_up_to, percent_value, path_value}
 
--- the greatest base fee and proportional fee, and the greatest delta of a direction (BOLT 7)
+-- the maximum base fee, proportional fee and CLTV delta of a direction (BOLT 7)
 abbrev pub fee_max : ℕ
 fee_max = 4294967295
 
 abbrev pub delay_max : ℕ
 delay_max = 65535
 
--- create-layer, remove-layer, listlayers
-abbrev pub layer_table : List (List ℕ)
-layer_table = codes "layer" ∷ []
+-- the methods whose first parameters are a layer, or a layer and a direction
+abbrev pub on_layer : List (List ℕ) → Data → (List ℕ → Result Command (List ℕ)) → Result Command (List ℕ)
+on_layer table params next = unless_long table params (needs table params 0 name_value next)
 
-unfoldable pub create_layer_in : Data → Result Command (List ℕ)
-create_layer_in params =
-    unless_long layer_table params (
-    needs layer_table params 0 name_value (λ layer.
-    if_known layer_table params (CreateLayer layer)))
+abbrev pub on_direction : List (List ℕ) → Data → (List ℕ → Direction → Result Command (List ℕ)) → Result Command (List ℕ)
+on_direction table params next = on_layer table params (λ layer. needs table params 1 dir_value (next layer))
 
-unfoldable pub remove_layer_in : Data → Result Command (List ℕ)
-remove_layer_in params =
-    unless_long layer_table params (
-    needs layer_table params 0 name_value (λ layer.
-    if_known layer_table params (RemoveLayer layer)))
+-- a command on one layer
+unfoldable pub layer_command : (List ℕ → Command) → Data → Result Command (List ℕ)
+layer_command make params =
+    on_layer layer_table params (λ layer. if_known layer_table params (make layer))
 
-unfoldable pub list_layers_in : Data → Result Command (List ℕ)
-list_layers_in params =
-    unless_long layer_table params (
-    may_have layer_table params 0 name_value (λ layer.
-    if_known layer_table params (ListLayers layer)))
+unfoldable pub list_layers_command : Data → Result Command (List ℕ)
+list_layers_command params =
+    unless_long layer_table params (may_have layer_table params 0 name_value (λ layer. if_known layer_table params (ListLayers layer)))
 
--- update-channel
-abbrev pub update_table : List (List ℕ)
-update_table =
-    codes "layer" ∷ codes "short_channel_id_dir" ∷ codes "enabled" ∷ codes "htlc_minimum_msat" ∷ codes "htlc_maximum_msat"
-    ∷ codes "fee_base_msat" ∷ codes "fee_proportional_millionths" ∷ codes "cltv_expiry_delta" ∷ []
-
-unfoldable pub update_channel_in : Data → Result Command (List ℕ)
-update_channel_in params =
-    unless_long update_table params (
-    needs update_table params 0 name_value (λ layer.
-    needs update_table params 1 dir_value (λ dir.
+unfoldable pub update_channel_command : Data → Result Command (List ℕ)
+update_channel_command params =
+    on_direction update_table params (λ layer dir.
     may_have update_table params 2 flag_value (λ enabled.
     may_have update_table params 3 amount_value (λ htlc_min.
     may_have update_table params 4 amount_value (λ htlc_max.
@@ -64,100 +53,50 @@ update_channel_in params =
       base = base;
       ppm = ppm;
       delay = delay;
-    })))))))))))
+    })))))))))
 
--- inform-channel
-abbrev pub inform_table : List (List ℕ)
-inform_table = codes "layer" ∷ codes "short_channel_id_dir" ∷ codes "amount_msat" ∷ codes "inform" ∷ []
-
--- that 0 msat could not pass says nothing that can be
-abbrev pub says_too_much : Inform → ℕ → Bool
-says_too_much Constrained amount = amount == 0
-says_too_much Unconstrained amount = false
-says_too_much Succeeded amount = false
-
-unfoldable pub inform_channel_in : Data → Result Command (List ℕ)
-inform_channel_in params =
-    unless_long inform_table params (
-    needs inform_table params 0 name_value (λ layer.
-    needs inform_table params 1 dir_value (λ dir.
+unfoldable pub inform_channel_command : Data → Result Command (List ℕ)
+inform_channel_command params =
+    on_direction inform_table params (λ layer dir.
     needs inform_table params 2 amount_value (λ amount.
     needs inform_table params 3 inform_value (λ kind.
-    refused_if (says_too_much kind amount) (codes "amount_msat") (
-    if_known inform_table params (InformChannel layer dir amount kind)))))))
+    refused_if (is_impossible kind amount) (get_or inform_table 2 []) (
+    if_known inform_table params (InformChannel layer dir amount kind)))))
 
--- bias-channel
-abbrev pub bias_table : List (List ℕ)
-bias_table = codes "layer" ∷ codes "short_channel_id_dir" ∷ codes "bias" ∷ []
-
-unfoldable pub bias_channel_in : Data → Result Command (List ℕ)
-bias_channel_in params =
-    unless_long bias_table params (
-    needs bias_table params 0 name_value (λ layer.
-    needs bias_table params 1 dir_value (λ dir.
+unfoldable pub bias_channel_command : Data → Result Command (List ℕ)
+bias_channel_command params =
+    on_direction bias_table params (λ layer dir.
     needs bias_table params 2 percent_value (λ bias.
-    if_known bias_table params (BiasChannel layer (record { dir = dir; bias = bias }))))))
+    if_known bias_table params (BiasChannel layer (record { dir = dir; bias = bias }))))
 
--- disable-node
-abbrev pub node_table : List (List ℕ)
-node_table = codes "layer" ∷ codes "node" ∷ []
+unfoldable pub disable_node_command : Data → Result Command (List ℕ)
+disable_node_command params =
+    on_layer node_table params (λ layer. needs node_table params 1 node_value (λ node. if_known node_table params (DisableNode layer node)))
 
-unfoldable pub disable_node_in : Data → Result Command (List ℕ)
-disable_node_in params =
-    unless_long node_table params (
-    needs node_table params 0 name_value (λ layer.
-    needs node_table params 1 node_value (λ node.
-    if_known node_table params (DisableNode layer node))))
+unfoldable pub age_command : Data → Result Command (List ℕ)
+age_command params =
+    on_layer age_table params (λ layer. needs age_table params 1 whole_value (λ cutoff. if_known age_table params (Age layer cutoff)))
 
--- age
-abbrev pub age_table : List (List ℕ)
-age_table = codes "layer" ∷ codes "cutoff" ∷ []
+-- a command on a path
+unfoldable pub path_command : (List Held → Command) → Data → Result Command (List ℕ)
+path_command make params =
+    unless_long path_table params (needs path_table params 0 path_value (λ path. if_known path_table params (make path)))
 
-unfoldable pub age_in : Data → Result Command (List ℕ)
-age_in params =
-    unless_long age_table params (
-    needs age_table params 0 name_value (λ layer.
-    needs age_table params 1 whole_value (λ cutoff.
-    if_known age_table params (Age layer cutoff))))
+unfoldable pub list_reservations_command : Data → Result Command (List ℕ)
+list_reservations_command params = unless_long empty_table params (if_known empty_table params ListReservations)
 
--- reserve, unreserve
-abbrev pub path_table : List (List ℕ)
-path_table = codes "path" ∷ []
-
-unfoldable pub reserve_in : Data → Result Command (List ℕ)
-reserve_in params =
-    unless_long path_table params (
-    needs path_table params 0 path_value (λ path.
-    if_known path_table params (Reserve path)))
-
-unfoldable pub unreserve_in : Data → Result Command (List ℕ)
-unreserve_in params =
-    unless_long path_table params (
-    needs path_table params 0 path_value (λ path.
-    if_known path_table params (Unreserve path)))
-
--- listreservations, which has no parameters
-abbrev pub empty_table : List (List ℕ)
-empty_table = []
-
-unfoldable pub list_reservations_in : Data → Result Command (List ℕ)
-list_reservations_in params =
-    unless_long empty_table params (
-    if_known empty_table params ListReservations)
-
--- The command of a method and its parameters, or the name of the parameter that is refused. None: there is no such
--- method.
+-- The command of a method and its parameters, or the name of the parameter that is refused. None: no such method exists.
 unfoldable pub command_in : List ℕ → Data → Option (Result Command (List ℕ))
 command_in method params =
-    if bytes_eq method (codes "askrene-create-layer") then Some (create_layer_in params)
-    else if bytes_eq method (codes "askrene-remove-layer") then Some (remove_layer_in params)
-    else if bytes_eq method (codes "askrene-listlayers") then Some (list_layers_in params)
-    else if bytes_eq method (codes "askrene-update-channel") then Some (update_channel_in params)
-    else if bytes_eq method (codes "askrene-inform-channel") then Some (inform_channel_in params)
-    else if bytes_eq method (codes "askrene-bias-channel") then Some (bias_channel_in params)
-    else if bytes_eq method (codes "askrene-disable-node") then Some (disable_node_in params)
-    else if bytes_eq method (codes "askrene-age") then Some (age_in params)
-    else if bytes_eq method (codes "askrene-reserve") then Some (reserve_in params)
-    else if bytes_eq method (codes "askrene-unreserve") then Some (unreserve_in params)
-    else if bytes_eq method (codes "askrene-listreservations") then Some (list_reservations_in params)
+    if bytes_eq method names.CREATE_LAYER.now then Some (layer_command CreateLayer params)
+    else if bytes_eq method names.REMOVE_LAYER.now then Some (layer_command RemoveLayer params)
+    else if bytes_eq method names.LIST_LAYERS.now then Some (list_layers_command params)
+    else if bytes_eq method names.UPDATE_CHANNEL.now then Some (update_channel_command params)
+    else if bytes_eq method names.INFORM_CHANNEL.now then Some (inform_channel_command params)
+    else if bytes_eq method names.BIAS_CHANNEL.now then Some (bias_channel_command params)
+    else if bytes_eq method names.DISABLE_NODE.now then Some (disable_node_command params)
+    else if bytes_eq method names.AGE.now then Some (age_command params)
+    else if bytes_eq method names.RESERVE.now then Some (path_command Reserve params)
+    else if bytes_eq method names.UNRESERVE.now then Some (path_command Unreserve params)
+    else if bytes_eq method names.LIST_RESERVATIONS.now then Some (list_reservations_command params)
     else None

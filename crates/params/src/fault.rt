@@ -1,11 +1,11 @@
 use plan_base::NoMemory;
 
-/// Why parameters make no command. The name is borrowed, so that a refusal takes no memory.
+/// Why parameters are refused. The name is borrowed, so a refusal allocates nothing.
 #[derive(Clone, Copy, Debug)]
 pub enum Fault<'a> {
     /// The parameter with this name is refused.
     Param(&'a str),
-    /// The allocator had no memory.
+    /// Out of memory.
     NoMemory,
 }
 

@@ -1,8 +1,8 @@
-ghost use Rattle.std.specs.Prelude.{◌≡◌, List, ℕ, map, IfOk, IfErr, OnOk, OnErr, IfSome, Some, None, true, false, bytes_eq, option_map};
+ghost use Rattle.std.specs.Prelude.{◌≡◌, ◌<◌, List, [], ℕ, length, get_or, map, IfOk, IfErr, OnOk, OnErr, IfSome, Some, None, true, false, bytes_eq, option_map};
 ghost use Rattle.std.specs.List.{list_any};
 ghost use Rattle.serde_json.specs.View.{view, members_view};
 ghost use Rattle.params.specs.Parameters as spec;
-ghost use Rattle.params.specs.Parameters.{is_too_long, required_in, optional_in, unknown_member, unknown_name};
+ghost use Rattle.params.specs.Parameters.{is_too_long, needed, given_for, unknown_member, unknown_name};
 ghost use Rattle.params.specs.Reading.{IsBad, IsTooLong, IsUnknown};
 
 use crate::fault::Fault;
@@ -21,19 +21,29 @@ fn find<'a>(params: &'a Value, place: usize, name: &str) -> Option<&'a Value>
     }
 }
 
-/// A parameter that has to be there, and to be good.
+/// The name of the parameter at a place of a table.
+pub fn name_at(table: &'static [&'static str], place: usize) -> &'static str
+    requires { place < length table.now }
+    ensures { result.now ≡ get_or (map (λ name. name.now) table.now) place [] }
+{
+    table[place]
+}
+
+/// The parameter at a place of a table, which must be present and good.
 #[tactic(auto, unfolding(crate::specs::Parameters::required))]
 pub fn required<'a, K: Kind>(
     alloc: Global,
     params: &Value,
+    table: &'static [&'static str],
     place: usize,
-    name: &'a str,
 ) -> Result<K::Good, Fault<'a>>
-    ensures ok { IfOk result (λ good. required_in K.reads (view params.now) place name.now ≡ Some good) }
+    requires { place < length table.now }
+    ensures ok { IfOk result (λ good. needed K.reads (map (λ name. name.now) table.now) (view params.now) place ≡ Some good) }
     ensures good { IfOk result K.is_good }
     ensures err { IfErr result (λ fault.
-        IsBad fault name.now (required_in K.reads (view params.now) place name.now)) }
+        IsBad fault (get_or (map (λ name. name.now) table.now) place []) (needed K.reads (map (λ name. name.now) table.now) (view params.now) place)) }
 {
+    let name = name_at(table, place);
     let Some(value) = find(params, place, name) else {
         return Err(Fault::Param(name));
     };
@@ -43,19 +53,21 @@ pub fn required<'a, K: Kind>(
     }
 }
 
-/// A parameter that may be absent or null, and else has to be good.
+/// The parameter at a place of a table, which must be absent, null or good.
 #[tactic(auto, unfolding(crate::specs::Parameters::optional))]
 pub fn optional<'a, K: Kind>(
     alloc: Global,
     params: &Value,
+    table: &'static [&'static str],
     place: usize,
-    name: &'a str,
 ) -> Result<Option<K::Good>, Fault<'a>>
-    ensures ok { IfOk result (λ good. optional_in K.reads (view params.now) place name.now ≡ Some good) }
+    requires { place < length table.now }
+    ensures ok { IfOk result (λ good. given_for K.reads (map (λ name. name.now) table.now) (view params.now) place ≡ Some good) }
     ensures good { IfOk result (λ good. IfSome good K.is_good) }
     ensures err { IfErr result (λ fault.
-        IsBad fault name.now (optional_in K.reads (view params.now) place name.now)) }
+        IsBad fault (get_or (map (λ name. name.now) table.now) place []) (given_for K.reads (map (λ name. name.now) table.now) (view params.now) place)) }
 {
+    let name = name_at(table, place);
     let Some(value) = find(params, place, name) else {
         return Ok(None);
     };
@@ -68,15 +80,15 @@ pub fn optional<'a, K: Kind>(
     }
 }
 
-/// Refuses an array of more than `count` items.
+/// Refuses an array with more items than the table has parameters.
 #[tactic(auto, using(crate::proofs::Values::count_of_items), unfolding(crate::specs::Parameters::is_too_long))]
-pub fn few<'a>(params: &Value, count: usize) -> Result<(), Fault<'a>>
-    ensures ok { OnOk result (is_too_long count (view params.now) ≡ false) }
-    ensures err { OnErr result (is_too_long count (view params.now) ≡ true) }
-    ensures name { IfErr result IsTooLong }
+pub fn refuse_extra_items<'a>(params: &Value, table: &[&str]) -> Result<(), Fault<'a>>
+    ensures ok { OnOk result (is_too_long (length table.now) (view params.now) ≡ false) }
+    ensures err { OnErr result (is_too_long (length table.now) (view params.now) ≡ true) }
+    ensures fault { IfErr result IsTooLong }
 {
     if let Some(items) = params.as_array() {
-        if items.len() > count {
+        if items.len() > table.len() {
             return Err(Fault::Param("params"));
         }
     }
@@ -106,9 +118,9 @@ fn unknown_in<'a>(members: &'a Map<String, Value>, table: &[&str]) -> Option<&'a
     None
 }
 
-/// Refuses a name that isn't in the table, the least one.
+/// Refuses the least name that is not in the table.
 #[tactic(auto, unfolding(crate::specs::Parameters::unknown_name))]
-pub fn known<'a>(params: &'a Value, table: &[&str]) -> Result<(), Fault<'a>>
+pub fn refuse_unknown_names<'a>(params: &'a Value, table: &[&str]) -> Result<(), Fault<'a>>
     ensures ok { OnOk result (unknown_name (map (λ other. other.now) table.now) (view params.now) ≡ None) }
     ensures err { IfErr result (λ fault. IsUnknown fault (unknown_name (map (λ other. other.now) table.now) (view params.now))) }
 {

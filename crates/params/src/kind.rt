@@ -8,7 +8,7 @@ use plan_base::NoMemory;
 use serde_json::Value;
 use std::alloc::Global;
 
-/// A kind of parameter: which values are good, and what they mean.
+/// A kind of parameter: its good values, and what they mean.
 pub trait Kind {
     /// What a good value means.
     type Good: Drop;
@@ -16,18 +16,18 @@ pub trait Kind {
     // The meaning of a good value.
     ghost reads: { Data → Option Self.Good };
 
-    // The value that is written for a meaning.
+    // The value written for a meaning.
     ghost prints: { Self.Good → Data };
 
-    // What holds of each meaning.
+    // A fact about each meaning.
     ghost is_good: { Self.Good → Type 0 };
 
-    /// Reads a value. None: it isn't good.
+    /// Reads a value. None: it is not good.
     fn read(alloc: Global, value: &Value) -> Result<Option<Self::Good>, NoMemory>
         ensures value { IfOk result (λ good. good ≡ reads (view value.now)) }
         ensures good { IfOk result (λ good. IfSome good is_good) };
 
-    /// Writes a value, which isn't null and is read back as the same.
+    /// Writes a value. It is not null, and it is read back as the same.
     fn write(alloc: Global, good: &Self::Good) -> Result<Value, NoMemory>
         requires { is_good good.now }
         ensures value { IfOk result (λ value. view value ≡ prints good.now) }

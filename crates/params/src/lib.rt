@@ -1,21 +1,21 @@
-//! Commands read from requests and written as the parameters of one: methods with tables of parameters, the good values
-//! of each kind of parameter, and which parameter is refused first.
+//! Reads commands from requests, and writes commands as the parameters of requests.
 #![tactic(auto)]
 
-mod channel_methods;
 mod command;
 mod fault;
 mod given;
 mod kind;
-mod layer_methods;
 mod named;
+mod names;
 mod number_kinds;
 mod path_kind;
-mod reservation_methods;
+mod readers;
 mod text_kinds;
+mod writers;
 mod written;
 
 pub use command::{CommandFault, command_of};
+pub use names::name_values;
 pub use written::{method_of, params_of};
 
 #[cfg(test)]

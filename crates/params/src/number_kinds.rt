@@ -4,7 +4,8 @@ ghost use Rattle.plan_base.specs.Amount.{at_most_max};
 ghost use Rattle.plan_base.specs.declared.amount.TheConstants.{MAX};
 ghost use Rattle.params.specs.Kinds.{whole_value, whole_up_to, amount_value, amount_up_to, percent_value};
 ghost use Rattle.params.specs.Methods.{fee_max, delay_max};
-ghost use Rattle.params.specs.Printed.{whole_data, percent_data};
+ghost use Rattle.rpc_lines.specs.Json.{whole};
+ghost use Rattle.params.specs.Printed.{percent_data};
 
 use crate::kind::Kind;
 use plan_base::{MAX, NoMemory, read_msat};
@@ -24,7 +25,7 @@ fn as_amount(number: u64) -> Option<u64>
     if number <= MAX { Some(number) } else { None }
 }
 
-/// The amount in msat that a value is, as a whole number or a text.
+/// Reads an amount in msat, given as an integer or a text.
 #[tactic(auto, unfolding(crate::specs::Kinds::amount_value))]
 pub fn read_amount(value: &Value) -> Option<u64>
     ensures value { result ≡ amount_value (view value.now) }
@@ -36,7 +37,7 @@ pub fn read_amount(value: &Value) -> Option<u64>
     }
 }
 
-/// Any whole number of 64 bits that isn't below 0.
+/// An integer that fits u64.
 pub struct Whole;
 
 impl Kind for Whole {
@@ -44,7 +45,7 @@ impl Kind for Whole {
 
     ghost reads = { whole_value };
 
-    ghost prints = { whole_data };
+    ghost prints = { whole };
 
     ghost is_good = { λ _. Unit {0} };
 
@@ -66,7 +67,7 @@ impl Kind for Amount {
 
     ghost reads = { amount_value };
 
-    ghost prints = { whole_data };
+    ghost prints = { whole };
 
     ghost is_good = { λ amount. amount ≤ MAX };
 
@@ -88,7 +89,7 @@ impl Kind for BaseFee {
 
     ghost reads = { amount_up_to fee_max };
 
-    ghost prints = { whole_data };
+    ghost prints = { whole };
 
     ghost is_good = { λ _. Unit {0} };
 
@@ -106,7 +107,7 @@ impl Kind for BaseFee {
     }
 }
 
-/// A proportional fee in parts per million: a whole number of at most 4294967295.
+/// A proportional fee in parts per million: an integer of at most 4294967295.
 pub struct ProportionalFee;
 
 impl Kind for ProportionalFee {
@@ -114,7 +115,7 @@ impl Kind for ProportionalFee {
 
     ghost reads = { whole_up_to fee_max };
 
-    ghost prints = { whole_data };
+    ghost prints = { whole };
 
     ghost is_good = { λ _. Unit {0} };
 
@@ -132,7 +133,7 @@ impl Kind for ProportionalFee {
     }
 }
 
-/// A CLTV delta in blocks: a whole number of at most 65535.
+/// A CLTV delta in blocks: an integer of at most 65535.
 pub struct CltvDelta;
 
 impl Kind for CltvDelta {
@@ -140,7 +141,7 @@ impl Kind for CltvDelta {
 
     ghost reads = { whole_up_to delay_max };
 
-    ghost prints = { whole_data };
+    ghost prints = { whole };
 
     ghost is_good = { λ _. Unit {0} };
 
@@ -158,7 +159,7 @@ impl Kind for CltvDelta {
     }
 }
 
-/// A whole number from -100 to 100.
+/// An integer from -100 to 100.
 pub struct Percent;
 
 impl Kind for Percent {

@@ -70,7 +70,7 @@ fn write_helds(alloc: Global, path: &[Held]) -> Result<Value, NoMemory>
     Ok(Value::Array(values))
 }
 
-/// The items that are reserved, or set free, at once: an array of 1 to `PATH_MAX` objects.
+/// The items that one command reserves or unreserves: an array of 1 to `PATH_MAX` objects.
 pub struct Path;
 
 impl Kind for Path {
@@ -85,7 +85,7 @@ impl Kind for Path {
     #[tactic(auto, using(crate::proofs::Values::count_of_items), unfolding(crate::specs::Kinds::path_value))]
     fn read(alloc: Global, value: &Value) -> Result<Option<Items<Held>>, NoMemory> {
         match value.as_array() {
-            // the count is tried first, so that a long array takes no memory
+            // the count is checked first: reading a long array would allocate
             Some(values) if is_path_length(values.len()) => read_helds(alloc, values),
             _ => Ok(None),
         }

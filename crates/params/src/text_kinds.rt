@@ -3,7 +3,8 @@ ghost use Rattle.serde_json.specs.Data.{string};
 ghost use Rattle.serde_json.specs.View.{view};
 ghost use Rattle.layer.specs.Name.{is_good_name};
 ghost use Rattle.params.specs.Kinds.{name_value, node_value, dir_value, inform_of, inform_value};
-ghost use Rattle.params.specs.Printed.{node_data, dir_data, inform_word, inform_data};
+ghost use Rattle.rpc_lines.specs.Json.{node_data, dir_data};
+ghost use Rattle.params.specs.Printed.{inform_word, inform_data};
 
 use crate::kind::Kind;
 use askrene_command::Inform;
@@ -68,7 +69,7 @@ impl Kind for Node {
     }
 }
 
-/// The direction that a value's text writes.
+/// Reads a direction, given as a text.
 #[tactic(auto, unfolding(crate::specs::Kinds::dir_value))]
 pub fn read_dir(value: &Value) -> Option<Dir>
     ensures { result ≡ dir_value (view value.now) }
@@ -120,7 +121,7 @@ fn inform_text(kind: Inform) -> &'static str
     }
 }
 
-/// What was learnt of a direction.
+/// What a payment showed about a direction.
 pub struct Learnt;
 
 impl Kind for Learnt {

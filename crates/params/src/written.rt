@@ -5,36 +5,38 @@ ghost use Rattle.params.specs.Methods.{command_in};
 ghost use Rattle.params.specs.Printed as spec;
 ghost use Rattle.params.specs.Printed.{params_data};
 
-use crate::channel_methods::{write_bias_channel, write_inform_channel, write_update_channel};
-use crate::layer_methods::{write_age, write_disable_node, write_layer, write_list_layers};
-use crate::reservation_methods::{write_no_params, write_path};
+use crate::names;
+use crate::writers::{
+    write_age, write_bias_channel, write_disable_node, write_inform_channel, write_layer,
+    write_list_layers, write_no_params, write_path, write_update_channel,
+};
 use askrene_command::Command;
 use plan_base::NoMemory;
 use serde_json::Value;
 use std::alloc::Global;
 
-/// The name of a command's method.
+/// The method of a command.
 pub fn method_of(command: &Command) -> &'static str
     ensures { result.now ≡ spec.method_of command.now }
 {
     match command {
-        Command::CreateLayer { .. } => "askrene-create-layer",
-        Command::RemoveLayer { .. } => "askrene-remove-layer",
-        Command::ListLayers { .. } => "askrene-listlayers",
-        Command::UpdateChannel { .. } => "askrene-update-channel",
-        Command::InformChannel { .. } => "askrene-inform-channel",
-        Command::BiasChannel { .. } => "askrene-bias-channel",
-        Command::DisableNode { .. } => "askrene-disable-node",
-        Command::Age { .. } => "askrene-age",
-        Command::Reserve { .. } => "askrene-reserve",
-        Command::Unreserve { .. } => "askrene-unreserve",
-        Command::ListReservations => "askrene-listreservations",
+        Command::CreateLayer { .. } => names::CREATE_LAYER,
+        Command::RemoveLayer { .. } => names::REMOVE_LAYER,
+        Command::ListLayers { .. } => names::LIST_LAYERS,
+        Command::UpdateChannel { .. } => names::UPDATE_CHANNEL,
+        Command::InformChannel { .. } => names::INFORM_CHANNEL,
+        Command::BiasChannel { .. } => names::BIAS_CHANNEL,
+        Command::DisableNode { .. } => names::DISABLE_NODE,
+        Command::Age { .. } => names::AGE,
+        Command::Reserve { .. } => names::RESERVE,
+        Command::Unreserve { .. } => names::UNRESERVE,
+        Command::ListReservations => names::LIST_RESERVATIONS,
     }
 }
 
-/// A command's parameters by their names: those that are given, amounts as numbers, ids in written form. Under the
-/// command's method they are read back as the same command.
-#[tactic(auto, unfolding(crate::specs::Printed::params_data, crate::specs::Methods::command_in))]
+/// The parameters of a command, by name. An absent one is left out; amounts are numbers, ids are strings. With the method of
+/// the command they are read back as the same command.
+#[tactic(auto, unfolding(crate::specs::Methods::command_in))]
 pub fn params_of(alloc: Global, command: &Command) -> Result<Value, NoMemory>
     requires { IsGoodCommand command.now }
     ensures value { IfOk result (λ value. view value ≡ params_data command.now) }

@@ -1,9 +1,9 @@
--- No record, no result and no refusal holds a number with a point or an exponent.
+-- No record and no list of records contains a floating-point number.
 use Rattle.std.proofs.Common.{◌≡◌, ℕ, ℤ, pos, negsuc, List, [], ◌∷◌, Option, Some, None, false, refl}
 use Rattle.serde_json.specs.Data.{Data, Members, boolean}
 use Rattle.serde_json.specs.Find.{of_integer, is_float}
 use Rattle.serde_json.specs.Written.{has_float, members_have_float}
-use Rattle.rpc_lines.specs.Reply.{value_in}
+use Rattle.rpc_lines.specs.Json.{whole, node_data}
 use Rattle.plan_base.specs.declared.held.Reservation.{Reservation}
 use Rattle.layer.specs.declared.records.Created.{Created}
 use Rattle.layer.specs.declared.records.Update.{Update}
@@ -11,12 +11,8 @@ use Rattle.layer.specs.declared.records.Constraint.{Constraint}
 use Rattle.layer.specs.declared.records.Bias.{Bias}
 use Rattle.layer.specs.Layer.{LayerLists}
 use Rattle.askrene_command.specs.declared.reply.Listed.{Listed}
-use Rattle.askrene_command.specs.declared.reply.Refusal.{Refusal}
-use Rattle.askrene_command.specs.declared.reply.Refusal.TheVariants.{LayerExists, LayerUnknown, LayersFull, LayerFull, NotReserved, ReservationsFull}
-use Rattle.askrene_command.specs.declared.reply.EventReply.{EventReply}
-use Rattle.askrene_command.specs.declared.reply.EventReply.TheVariants.{Done, Removed, Informed, Layers, Reservations, Refused}
-use Rattle.plan_answer.specs.Records.{whole, member_if, list_data, node_data, bias_data, update_data, constraint_data, created_data, reservation_data, layer_data}
-use Rattle.plan_answer.specs.EventReply.{learnt, listed_data, refusal_content, event_content}
+use Rattle.plan_answer.specs.Records.{member_if, list_data, bias_data, update_data, constraint_data, created_data, reservation_data, layer_data}
+use Rattle.plan_answer.specs.EventReply.{listed_data}
 
 list_none : {T : Type 0} (prints : T → Data) → ((x : T) → has_float (prints x) ≡ false) → (list : List T) → has_float (list_data prints list) ≡ false
 list_none prints each [] = refl
@@ -72,20 +68,11 @@ listed_none : (listed : Listed) → has_float (listed_data listed) ≡ false
 unfolding listed_data
 listed_none listed = layer_none listed.name listed.layer
 
-refusal_none : (at : ℕ) (refusal : Refusal) → has_float (value_in (refusal_content at refusal)) ≡ false
-unfolding refusal_content
-refusal_none at (LayerExists layer) = refl
-refusal_none at (LayerUnknown layer) = refl
-refusal_none at (LayersFull count) = refl
-refusal_none at (LayerFull layer) = refl
-refusal_none at (NotReserved index) = refl
-refusal_none at (ReservationsFull length) = refl
+pub constraints_none : (constraints : List Constraint) → has_float (list_data constraint_data constraints) ≡ false
+constraints_none constraints = list_none constraint_data constraint_none constraints
 
-pub event_none : (at : ℕ) (reply : EventReply) → has_float (value_in (event_content at reply)) ≡ false
-unfolding event_content
-event_none at Done = refl
-event_none at (Removed count) = refl
-event_none at (Informed constraint) = rw (list_none constraint_data constraint_none (learnt constraint)) refl
-event_none at (Layers layers) = rw (list_none listed_data listed_none layers) refl
-event_none at (Reservations now list) = rw (list_none (reservation_data now) (reservation_none now) list) refl
-event_none at (Refused refusal) = refusal_none at refusal
+pub layers_none : (layers : List Listed) → has_float (list_data listed_data layers) ≡ false
+layers_none layers = list_none listed_data listed_none layers
+
+pub reservations_none : (now : ℕ) (list : List Reservation) → has_float (list_data (reservation_data now) list) ≡ false
+reservations_none now list = list_none (reservation_data now) (reservation_none now) list

@@ -1,21 +1,21 @@
--- A member in front of others stands before them.
+-- A member whose key is below the others comes first.
 use Rattle.std.proofs.Common.{◌≡◌, ℕ, List, refl}
 use Rattle.std.proofs.lemmas.Cmp.{nat_list_cmp_total}
 use Rattle.serde_json.specs.Data.{Data, Members, member, no_members, put}
 use Rattle.plan_answer.specs.Order.{IsBelow, IsBefore}
 
--- what is put before the others stands in front of them
+-- a member with a lower key is put first
 pub put_before : (key : List ℕ) (value : Data) (others : Members) → IsBefore key others → put key value others ≡ member key value others
 unfolding IsBefore
 put_before key value no_members before = refl
 put_before key value (member other first rest) before = rw before refl
 
--- and a lower key stands before all of them
+-- and a key below it is below all of them
 pub before_put : (lower key : List ℕ) (value : Data) (others : Members) → IsBelow lower key → IsBefore key others → IsBefore lower (put key value others)
 unfolding IsBefore
 before_put lower key value others below before = rw (put_before key value others before) below
 
--- a lower key stands before the same members
+-- a lower key is below the same members
 pub lower_before : (lower key : List ℕ) (others : Members) → IsBelow lower key → IsBefore key others → IsBefore lower others
 unfolding IsBefore
 lower_before lower key no_members below before = tt

@@ -1,38 +1,44 @@
--- What is said to a line that is no entry of the history, and where memory was wanting. The first four codes are those
--- of JSON-RPC 2.0, the others are this project's own.
-use Rattle.std.specs.Prelude.{ℕ, List, pos, negsuc, codes}
-use Rattle.serde_json.specs.Data.{object, string, member, no_members}
+-- The errors for a line that gets no entry in the history, and for running out of memory. The first four codes are those of
+-- JSON-RPC 2.0, the others are this project's own.
+use Rattle.std.specs.Prelude.{ℕ, ℤ, List, pos, negsuc, codes}
+use Rattle.serde_json.specs.Data.{Data, object, string, member, no_members}
+use Rattle.rpc_lines.specs.Json.{whole}
 use Rattle.rpc_lines.specs.Reply.{Content, with_error}
-use Rattle.plan_answer.specs.Records.{whole}
-use Rattle.plan_answer.specs.EventReply.{at_place}
 
--- the line can't be read: -32700
+-- an error without data, and an error with one member
+abbrev pub bare_error : ℤ → List ℕ → Content
+bare_error code message = with_error code message (object no_members)
+
+abbrev pub error_with : ℤ → List ℕ → List ℕ → Data → Content
+error_with code message key value = with_error code message (object (member key value no_members))
+
+-- the line is not a JSON text: -32700
 unfoldable pub parse_error : Content
-parse_error = with_error (negsuc 32699) (codes "parse error") (object no_members)
+parse_error = bare_error (negsuc 32699) (codes "parse error")
 
--- the line is no request: -32600
+-- the line is not a request: -32600
 unfoldable pub invalid_request : Content
-invalid_request = with_error (negsuc 32599) (codes "invalid request") (object no_members)
+invalid_request = bare_error (negsuc 32599) (codes "invalid request")
 
--- there is no such method: -32601
+-- the method does not exist: -32601
 unfoldable pub method_not_found : List ℕ → Content
-method_not_found method = with_error (negsuc 32600) (codes "method not found") (object (member (codes "method") (string method) no_members))
+method_not_found method = error_with (negsuc 32600) (codes "method not found") (codes "method") (string method)
 
--- a parameter is bad: -32602
+-- a parameter is missing or bad: -32602
 unfoldable pub invalid_params : List ℕ → Content
-invalid_params name = with_error (negsuc 32601) (codes "invalid params") (object (member (codes "name") (string name) no_members))
+invalid_params name = error_with (negsuc 32601) (codes "invalid params") (codes "name") (string name)
 
 unfoldable pub line_too_long : Content
-line_too_long = with_error (pos 310) (codes "line too long") (object no_members)
+line_too_long = bare_error (pos 310) (codes "line too long")
 
--- the journal has as many entries as it may have, which is the length
+-- the journal has its maximum number of entries, `length`
 unfoldable pub journal_full : ℕ → Content
-journal_full length = with_error (pos 306) (codes "journal full") (object (member (codes "length") (whole length) no_members))
+journal_full length = error_with (pos 306) (codes "journal full") (codes "length") (whole length)
 
--- memory was wanting before the command became an entry
+-- out of memory before the command got an entry
 unfoldable pub out_of_memory : Content
-out_of_memory = with_error (pos 399) (codes "out of memory") (object no_members)
+out_of_memory = bare_error (pos 399) (codes "out of memory")
 
--- memory was wanting for the reply to the entry at a place
+-- out of memory for the reply to the entry at a position
 unfoldable pub out_of_memory_at : ℕ → Content
-out_of_memory_at at = with_error (pos 399) (codes "out of memory") (at_place at no_members)
+out_of_memory_at at = error_with (pos 399) (codes "out of memory") (codes "at") (whole at)

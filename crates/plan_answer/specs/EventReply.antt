@@ -1,4 +1,4 @@
--- What is said of the entry at a place in the history: its result, or its refusal.
+-- The content of the reply to the entry at a position of the history: its result, or its refusal.
 use Rattle.std.specs.Prelude.{ℕ, ℤ, List, [], ◌∷◌, pos, Option, Some, None, codes}
 use Rattle.serde_json.specs.Data.{Data, Members, string, object, member, no_members}
 use Rattle.rpc_lines.specs.Reply.{Content, with_result, with_error}
@@ -8,24 +8,25 @@ use Rattle.askrene_command.specs.declared.reply.Refusal.{Refusal}
 use Rattle.askrene_command.specs.declared.reply.Refusal.TheVariants.{LayerExists, LayerUnknown, LayersFull, LayerFull, NotReserved, ReservationsFull}
 use Rattle.askrene_command.specs.declared.reply.EventReply.{EventReply}
 use Rattle.askrene_command.specs.declared.reply.EventReply.TheVariants.{Done, Removed, Informed, Layers, Reservations, Refused}
-use Rattle.plan_answer.specs.Records.{whole, list_data, constraint_data, reservation_data, layer_data}
+use Rattle.rpc_lines.specs.Json.{whole}
+use Rattle.plan_answer.specs.Records.{list_data, constraint_data, reservation_data, layer_data}
 
--- the place stands first of all keys
+-- an object whose first key is `at`
 abbrev pub at_place : ℕ → Members → Data
 at_place at rest = object (member (codes "at") (whole at) rest)
 
-abbrev pub learnt : Option Constraint → List Constraint
-learnt None = []
-learnt (Some constraint) = constraint ∷ []
+abbrev pub constraint_list : Option Constraint → List Constraint
+constraint_list None = []
+constraint_list (Some constraint) = constraint ∷ []
 
 unfoldable pub listed_data : Listed → Data
 listed_data listed = layer_data listed.name listed.layer
 
--- an error that names a layer
+-- an error with the name of a layer
 abbrev pub layer_error : ℤ → List ℕ → ℕ → List ℕ → Content
 layer_error code message at layer = with_error code message (at_place at (member (codes "layer") (string layer) no_members))
 
--- an error that tells a whole number under its key
+-- an error with a number
 abbrev pub number_error : ℤ → List ℕ → ℕ → List ℕ → ℕ → Content
 number_error code message at key n = with_error code message (at_place at (member key (whole n) no_members))
 
@@ -41,7 +42,7 @@ unfoldable pub event_content : ℕ → EventReply → Content
 event_content at Done = with_result (at_place at no_members)
 event_content at (Removed count) = with_result (at_place at (member (codes "num_removed") (whole count) no_members))
 event_content at (Informed constraint) =
-    with_result (at_place at (member (codes "constraints") (list_data constraint_data (learnt constraint)) no_members))
+    with_result (at_place at (member (codes "constraints") (list_data constraint_data (constraint_list constraint)) no_members))
 event_content at (Layers layers) = with_result (at_place at (member (codes "layers") (list_data listed_data layers) no_members))
 event_content at (Reservations now list) =
     with_result (at_place at (member (codes "reservations") (list_data (reservation_data now) list) no_members))

@@ -1,4 +1,4 @@
--- Members that stand in front of others, in the order of keys; for private clauses.
+-- The order of members by their keys; it serves private clauses only.
 use Rattle.std.specs.Prelude.{◌≡◌, ℕ, List}
 use Rattle.std.specs.declared.cmp.Ordering.TheVariants.{Less}
 use Rattle.std.specs.Ordering.{nat_cmp}

@@ -1,12 +1,12 @@
--- The records of a layer, and reservations, as JSON values. Keys ascend by their bytes; amounts are numbers in msat, ids are texts.
+-- The JSON values of the records of a layer and of reservations. Keys are in ascending byte order. Amounts are numbers in
+-- msat, ids are strings.
 use Rattle.std.specs.Prelude.{ℕ, ◌-◌, List, map, Option, Some, None, codes}
-use Rattle.serde_json.specs.Data.{Data, Members, number, unsigned, string, boolean, array, object, member, no_members}
+use Rattle.serde_json.specs.Data.{Data, Members, number, string, boolean, array, object, member, no_members}
 use Rattle.serde_json.specs.Find.{of_integer}
 use Rattle.serde_json.specs.View.{items_of}
-use Rattle.plan_base.specs.NodeId.{node_id_text}
 use Rattle.plan_base.specs.Scid.{scid_text}
-use Rattle.plan_base.specs.Dir.{Direction, dir_text}
 use Rattle.plan_base.specs.declared.held.Reservation.{Reservation}
+use Rattle.rpc_lines.specs.Json.{whole, dir_data, node_data}
 use Rattle.layer.specs.Layer.{LayerLists}
 use Rattle.layer.specs.declared.records.Created.{Created}
 use Rattle.layer.specs.declared.records.Update.{Update}
@@ -15,13 +15,7 @@ use Rattle.layer.specs.declared.records.Bound.TheVariants.{Max, Min}
 use Rattle.layer.specs.declared.records.Constraint.{Constraint}
 use Rattle.layer.specs.declared.records.Bias.{Bias}
 
-abbrev pub whole : ℕ → Data
-whole n = number (unsigned n)
-
-abbrev pub dir_data : Direction → Data
-dir_data dir = string (dir_text dir)
-
--- a member that is there where its value is given
+-- the members, with one more if its value is given
 abbrev pub member_if : {T : Type 0} → List ℕ → (T → Data) → Option T → Members → Members
 member_if key prints None rest = rest
 member_if key prints (Some value) rest = member key (prints value) rest
@@ -41,7 +35,7 @@ update_data change =
     (member_if (codes "htlc_minimum_msat") whole change.htlc_min
     (member (codes "short_channel_id_dir") (dir_data change.dir) no_members)))))))
 
--- the key of a bound comes first
+-- the first key of a constraint
 abbrev pub bound_key : Bound → List ℕ
 bound_key Max = codes "maximum_msat"
 bound_key Min = codes "minimum_msat"
@@ -55,11 +49,11 @@ constraint_data constraint =
 unfoldable pub created_data : Created → Data
 created_data channel =
     object (member (codes "capacity_msat") (whole channel.capacity)
-    (member (codes "destination") (string (node_id_text channel.destination))
+    (member (codes "destination") (node_data channel.destination)
     (member (codes "short_channel_id") (string (scid_text channel.scid))
-    (member (codes "source") (string (node_id_text channel.source)) no_members))))
+    (member (codes "source") (node_data channel.source) no_members))))
 
--- a reservation, listed at a moment: its age is 0 where it was made later than that, as a clock may step back
+-- a reservation, listed at `now`; if the clock went backwards, its age is 0
 unfoldable pub reservation_data : ℕ → Reservation → Data
 reservation_data now reservation =
     object (member (codes "age_in_seconds") (whole (now - reservation.moment))
@@ -67,10 +61,7 @@ reservation_data now reservation =
     (member (codes "caller") (whole reservation.caller)
     (member (codes "short_channel_id_dir") (dir_data reservation.dir) no_members))))
 
-abbrev pub node_data : List ℕ → Data
-node_data node = string (node_id_text node)
-
--- a list of values, in the list's own order
+-- a list of values, in the same order
 abbrev pub list_data : {T : Type 0} → (T → Data) → List T → Data
 list_data prints list = array (items_of (map prints list))
 

@@ -1,92 +1,103 @@
-ghost use Rattle.std.specs.Prelude.{◌≡◌, ℤ, List, ℕ, false, IfOk};
-ghost use Rattle.serde_json.specs.Data.{Data, no_members, member, object, string};
-ghost use Rattle.serde_json.specs.View.{view};
-ghost use Rattle.serde_json.specs.Written.{has_float};
-ghost use Rattle.rpc_lines.specs.Reply.{content_of, value_in, with_error};
-ghost use Rattle.plan_answer.specs.Errors as said;
+ghost use Rattle.std.specs.Prelude.{◌≡◌, IfOk};
+ghost use Rattle.serde_json.specs.Data.{string};
+ghost use Rattle.rpc_lines.specs.Json.{whole};
+ghost use Rattle.plan_answer.specs.Errors as spec;
 
 use plan_base::NoMemory;
 use rpc_lines::Body;
 use serde_json::{Map, Value, json};
 use std::alloc::Global;
 
-/// What is said to a line that can't be read (JSON-RPC 2.0: -32700).
+fn bare_error(alloc: Global, code: i32, message: &str) -> Result<Body, NoMemory>
+    ensures { IfOk result (λ body. body ≡ spec.bare_error code message.now) }
+{
+    Body::error(alloc, code, message, Value::Object(Map::new(alloc)))
+}
+
+fn text_error(
+    alloc: Global,
+    code: i32,
+    message: &str,
+    key: &str,
+    text: &str,
+) -> Result<Body, NoMemory>
+    ensures { IfOk result (λ body. body ≡ spec.error_with code message.now key.now (string text.now)) }
+{
+    Body::error(alloc, code, message, json!(in alloc; {key: text})?)
+}
+
+fn number_error(
+    alloc: Global,
+    code: i32,
+    message: &str,
+    key: &str,
+    number: u64,
+) -> Result<Body, NoMemory>
+    ensures { IfOk result (λ body. body ≡ spec.error_with code message.now key.now (whole number)) }
+{
+    Body::error(alloc, code, message, json!(in alloc; {key: number})?)
+}
+
+/// The line is not a JSON text (JSON-RPC 2.0: -32700).
 #[tactic(auto, unfolding(crate::specs::Errors::parse_error))]
 pub fn parse_error(alloc: Global) -> Result<Body, NoMemory>
-    ensures content { IfOk result (λ body. content_of body ≡ said.parse_error) }
-    ensures no_float { IfOk result (λ body. has_float (value_in (content_of body)) ≡ false) }
+    ensures { IfOk result (λ body. body ≡ spec.parse_error) }
 {
-    Body::error(alloc, -32700, "parse error", Value::Object(Map::new(alloc)))
+    bare_error(alloc, -32700, "parse error")
 }
 
-/// What is said to a line that is no request (JSON-RPC 2.0: -32600).
+/// The line is not a request (JSON-RPC 2.0: -32600).
 #[tactic(auto, unfolding(crate::specs::Errors::invalid_request))]
 pub fn invalid_request(alloc: Global) -> Result<Body, NoMemory>
-    ensures content { IfOk result (λ body. content_of body ≡ said.invalid_request) }
-    ensures no_float { IfOk result (λ body. has_float (value_in (content_of body)) ≡ false) }
+    ensures { IfOk result (λ body. body ≡ spec.invalid_request) }
 {
-    Body::error(
-        alloc,
-        -32600,
-        "invalid request",
-        Value::Object(Map::new(alloc)),
-    )
+    bare_error(alloc, -32600, "invalid request")
 }
 
-/// What is said where there is no such method (JSON-RPC 2.0: -32601).
+/// The method does not exist (JSON-RPC 2.0: -32601).
 #[tactic(auto, unfolding(crate::specs::Errors::method_not_found))]
 pub fn method_not_found(alloc: Global, method: &str) -> Result<Body, NoMemory>
-    ensures content { IfOk result (λ body. content_of body ≡ said.method_not_found method.now) }
-    ensures no_float { IfOk result (λ body. has_float (value_in (content_of body)) ≡ false) }
+    ensures { IfOk result (λ body. body ≡ spec.method_not_found method.now) }
 {
-    let detail = json!(in alloc; {"method": method})?;
-    Body::error(alloc, -32601, "method not found", detail)
+    text_error(alloc, -32601, "method not found", "method", method)
 }
 
-/// What is said where a parameter is bad, which is named (JSON-RPC 2.0: -32602).
+/// A parameter is missing or bad (JSON-RPC 2.0: -32602); `name` names it.
 #[tactic(auto, unfolding(crate::specs::Errors::invalid_params))]
 pub fn invalid_params(alloc: Global, name: &str) -> Result<Body, NoMemory>
-    ensures content { IfOk result (λ body. content_of body ≡ said.invalid_params name.now) }
-    ensures no_float { IfOk result (λ body. has_float (value_in (content_of body)) ≡ false) }
+    ensures { IfOk result (λ body. body ≡ spec.invalid_params name.now) }
 {
-    let detail = json!(in alloc; {"name": name})?;
-    Body::error(alloc, -32602, "invalid params", detail)
+    text_error(alloc, -32602, "invalid params", "name", name)
 }
 
-/// What is said to a line that is longer than a line may be.
+/// The line exceeds the maximum length.
 #[tactic(auto, unfolding(crate::specs::Errors::line_too_long))]
 pub fn line_too_long(alloc: Global) -> Result<Body, NoMemory>
-    ensures content { IfOk result (λ body. content_of body ≡ said.line_too_long) }
-    ensures no_float { IfOk result (λ body. has_float (value_in (content_of body)) ≡ false) }
+    ensures { IfOk result (λ body. body ≡ spec.line_too_long) }
 {
-    Body::error(alloc, 310, "line too long", Value::Object(Map::new(alloc)))
+    bare_error(alloc, 310, "line too long")
 }
 
-/// What is said where the journal has as many entries as it may have, which is the length.
+/// The journal has its maximum number of entries, `length`.
 #[tactic(auto, unfolding(crate::specs::Errors::journal_full))]
 pub fn journal_full(alloc: Global, length: u64) -> Result<Body, NoMemory>
-    ensures content { IfOk result (λ body. content_of body ≡ said.journal_full length) }
-    ensures no_float { IfOk result (λ body. has_float (value_in (content_of body)) ≡ false) }
+    ensures { IfOk result (λ body. body ≡ spec.journal_full length) }
 {
-    let detail = json!(in alloc; {"length": length})?;
-    Body::error(alloc, 306, "journal full", detail)
+    number_error(alloc, 306, "journal full", "length", length)
 }
 
-/// What is said where memory was wanting before the command became an entry.
+/// Out of memory before the command got an entry.
 #[tactic(auto, unfolding(crate::specs::Errors::out_of_memory))]
 pub fn out_of_memory(alloc: Global) -> Result<Body, NoMemory>
-    ensures content { IfOk result (λ body. content_of body ≡ said.out_of_memory) }
-    ensures no_float { IfOk result (λ body. has_float (value_in (content_of body)) ≡ false) }
+    ensures { IfOk result (λ body. body ≡ spec.out_of_memory) }
 {
-    Body::error(alloc, 399, "out of memory", Value::Object(Map::new(alloc)))
+    bare_error(alloc, 399, "out of memory")
 }
 
-/// What is said where memory was wanting for the reply to the entry at this place.
+/// Out of memory for the reply to the entry at position `at`.
 #[tactic(auto, unfolding(crate::specs::Errors::out_of_memory_at))]
 pub fn out_of_memory_at(alloc: Global, at: u64) -> Result<Body, NoMemory>
-    ensures content { IfOk result (λ body. content_of body ≡ said.out_of_memory_at at) }
-    ensures no_float { IfOk result (λ body. has_float (value_in (content_of body)) ≡ false) }
+    ensures { IfOk result (λ body. body ≡ spec.out_of_memory_at at) }
 {
-    let detail = json!(in alloc; {"at": at})?;
-    Body::error(alloc, 399, "out of memory", detail)
+    number_error(alloc, 399, "out of memory", "at", at)
 }

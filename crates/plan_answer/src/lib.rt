@@ -1,4 +1,4 @@
-//! What the service says to a command: the body of a reply, made of what the state told.
+//! Builds the bodies of replies: results, refusals and errors.
 #![tactic(auto)]
 
 mod errors;

@@ -8,16 +8,16 @@ use plan_base::NoMemory;
 use serde_json::{Map, Value, put};
 use std::alloc::Global;
 
-/// What is printed as one JSON value.
+/// A value that is written as one JSON value.
 pub trait Printed {
     ghost prints: { Self → Data };
 
-    /// The value; amounts are numbers in msat, ids are texts.
+    /// The JSON value. Amounts are numbers in msat, ids are strings.
     fn value(&self, alloc: Global) -> Result<Value, NoMemory>
         ensures { IfOk result (λ value. view value ≡ prints self.now) };
 }
 
-/// A list, in its own order.
+/// A list, in the same order.
 pub fn list_value<T: Printed>(alloc: Global, list: &[T]) -> Result<Value, NoMemory>
     ensures { IfOk result (λ value. view value ≡ list_data T.prints list.now) }
 {
@@ -45,7 +45,7 @@ pub fn put_value<T: Printed>(
     Ok(())
 }
 
-/// Adds a list as a member, in its own order.
+/// Adds a list as a member, in the same order.
 pub fn put_list<T: Printed>(
     members: &mut Map<String, Value>,
     alloc: Global,
@@ -61,7 +61,7 @@ pub fn put_list<T: Printed>(
     Ok(())
 }
 
-/// Adds a member in front of all that are there, where its value is given.
+/// Adds a member before all others, if its value is given.
 #[tactic(auto, using(crate::proofs::Order::put_before))]
 pub fn put_given<T: Printed>(
     members: &mut Map<String, Value>,

@@ -2,7 +2,8 @@ ghost use Rattle.std.specs.Prelude.{◌≡◌, IfOk};
 ghost use Rattle.serde_json.specs.Data.{boolean, string};
 ghost use Rattle.serde_json.specs.View.{view};
 ghost use Rattle.plan_base.specs.Scid.{scid_text};
-ghost use Rattle.plan_answer.specs.Records.{whole, list_data, dir_data, bias_data, update_data, constraint_data, created_data, reservation_data, node_data, layer_data};
+ghost use Rattle.rpc_lines.specs.Json.{whole, dir_data, node_data};
+ghost use Rattle.plan_answer.specs.Records.{list_data, bias_data, update_data, constraint_data, created_data, reservation_data, layer_data};
 ghost use Rattle.plan_answer.specs.EventReply.{listed_data};
 
 use crate::printed::{Printed, put_given, put_list, put_value};
@@ -152,7 +153,7 @@ impl Printed for Listed {
     }
 }
 
-/// Reservations in their own order, as they are listed at a moment in seconds.
+/// Reservations in the same order, listed at `now` in Unix seconds.
 pub fn reservation_list(alloc: Global, now: u64, list: &[Reservation]) -> Result<Value, NoMemory>
     ensures { IfOk result (λ value. view value ≡ list_data (reservation_data now) list.now) }
 {
@@ -168,7 +169,7 @@ pub fn reservation_list(alloc: Global, now: u64, list: &[Reservation]) -> Result
 fn reservation_value(alloc: Global, now: u64, reservation: &Reservation) -> Result<Value, NoMemory>
     ensures { IfOk result (λ value. view value ≡ reservation_data now reservation.now) }
 {
-    // a clock may step back: then the reservation is as new as can be
+    // if the clock went backwards, the age is 0
     let age = now.saturating_sub(reservation.moment);
     let dir = reservation.dir.write(alloc)?;
     Ok(

@@ -1,7 +1,4 @@
-ghost use Rattle.std.specs.Prelude.{◌≡◌, false, IfOk};
-ghost use Rattle.serde_json.specs.Written.{has_float};
-ghost use Rattle.rpc_lines.specs.Reply.{content_of, value_in};
-
+//! The lines of replies.
 use super::*;
 use askrene_command::{EventReply, Listed, Refusal};
 use layer::{Bias, Bound, Constraint, Created, Layer, Name, Update};
@@ -9,18 +6,17 @@ use plan_base::{Dir, Items, NoMemory, NodeId, Reservation, Scid};
 use rpc_lines::{Body, Id, Reply, write_reply};
 use std::alloc::Global;
 
-// The reply with this body has this line.
-fn says(alloc: Global, body: Result<Body, NoMemory>, text: &str) -> bool
-    requires { IfOk body (λ body. has_float (value_in (content_of body)) ≡ false) }
-{
+// Whether the reply with this body is written as this line and LF.
+fn is_line(alloc: Global, body: Result<Body, NoMemory>, text: &str) -> bool {
     let Ok(body) = body else {
         return false;
     };
     let reply = Reply { id: Id::Null, body };
-    match write_reply(alloc, &reply) {
-        Ok(line) => line.as_slice() == text.as_bytes(),
-        Err(_) => false,
-    }
+    let (Ok(line), Ok(expected)) = (write_reply(alloc, &reply), format!(in alloc; "{text}\n"))
+    else {
+        return false;
+    };
+    line.as_slice() == expected.as_bytes()
 }
 
 fn dir() -> Option<Dir> {
@@ -47,39 +43,42 @@ fn results(rt: HostRuntime) {
         (
             0,
             EventReply::Done,
-            "{\"id\":null,\"jsonrpc\":\"2.0\",\"result\":{\"at\":0}}\n",
+            r#"{"id":null,"jsonrpc":"2.0","result":{"at":0}}"#,
         ),
         (
             7,
             EventReply::Removed { count: 3 },
-            "{\"id\":null,\"jsonrpc\":\"2.0\",\"result\":{\"at\":7,\"num_removed\":3}}\n",
+            r#"{"id":null,"jsonrpc":"2.0","result":{"at":7,"num_removed":3}}"#,
         ),
         (
             1,
             EventReply::Informed { constraint: None },
-            "{\"id\":null,\"jsonrpc\":\"2.0\",\"result\":{\"at\":1,\"constraints\":[]}}\n",
+            r#"{"id":null,"jsonrpc":"2.0","result":{"at":1,"constraints":[]}}"#,
         ),
         (
             2,
             EventReply::Informed {
                 constraint: constraint(Bound::Max),
             },
-            "{\"id\":null,\"jsonrpc\":\"2.0\",\"result\":{\"at\":2,\"constraints\":[{\"maximum_msat\":499,\"short_channel_id_dir\":\"100x3x0/0\",\"timestamp\":100}]}}\n",
+            r#"{"id":null,"jsonrpc":"2.0","result":{"at":2,"constraints":[{"maximum_msat":499,"short_channel_id_dir":"100x3x0/0","timestamp":100}]}}"#,
         ),
         (
             3,
             EventReply::Informed {
                 constraint: constraint(Bound::Min),
             },
-            "{\"id\":null,\"jsonrpc\":\"2.0\",\"result\":{\"at\":3,\"constraints\":[{\"minimum_msat\":499,\"short_channel_id_dir\":\"100x3x0/0\",\"timestamp\":100}]}}\n",
+            r#"{"id":null,"jsonrpc":"2.0","result":{"at":3,"constraints":[{"minimum_msat":499,"short_channel_id_dir":"100x3x0/0","timestamp":100}]}}"#,
         ),
         (
             4,
             EventReply::Layers(Items::new(alloc)),
-            "{\"id\":null,\"jsonrpc\":\"2.0\",\"result\":{\"at\":4,\"layers\":[]}}\n",
+            r#"{"id":null,"jsonrpc":"2.0","result":{"at":4,"layers":[]}}"#,
         ),
     ] {
-        assert!(rt; says(alloc, event_body(alloc, at, &reply), text), "at {at}");
+        assert!(rt;
+            is_line(alloc, event_body(alloc, at, &reply), text),
+            "at {at}"
+        );
     }
 }
 
@@ -169,23 +168,26 @@ fn layers(rt: HostRuntime) {
         (
             3,
             with_bias(alloc),
-            "{\"id\":null,\"jsonrpc\":\"2.0\",\"result\":{\"at\":3,\"layers\":[{\"biases\":[{\"bias\":5,\"short_channel_id_dir\":\"100x3x0/0\"}],\"channel_updates\":[],\"constraints\":[],\"created_channels\":[],\"disabled_nodes\":[\"02bbbbbbbbbbbbbbbbbbbbbbbbbbbbbbbbbbbbbbbbbbbbbbbbbbbbbbbbbbbbbbbb\"],\"layer\":\"x\"}]}}\n",
+            r#"{"id":null,"jsonrpc":"2.0","result":{"at":3,"layers":[{"biases":[{"bias":5,"short_channel_id_dir":"100x3x0/0"}],"channel_updates":[],"constraints":[],"created_channels":[],"disabled_nodes":["02bbbbbbbbbbbbbbbbbbbbbbbbbbbbbbbbbbbbbbbbbbbbbbbbbbbbbbbbbbbbbbbb"],"layer":"x"}]}}"#,
         ),
         (
             4,
             with_bare_update(alloc),
-            "{\"id\":null,\"jsonrpc\":\"2.0\",\"result\":{\"at\":4,\"layers\":[{\"biases\":[],\"channel_updates\":[{\"short_channel_id_dir\":\"100x3x0/0\"}],\"constraints\":[],\"created_channels\":[],\"disabled_nodes\":[],\"layer\":\"x\"}]}}\n",
+            r#"{"id":null,"jsonrpc":"2.0","result":{"at":4,"layers":[{"biases":[],"channel_updates":[{"short_channel_id_dir":"100x3x0/0"}],"constraints":[],"created_channels":[],"disabled_nodes":[],"layer":"x"}]}}"#,
         ),
         (
             5,
             with_all(alloc),
-            "{\"id\":null,\"jsonrpc\":\"2.0\",\"result\":{\"at\":5,\"layers\":[{\"biases\":[{\"bias\":-7,\"short_channel_id_dir\":\"100x3x0/1\"}],\"channel_updates\":[{\"cltv_expiry_delta\":6,\"enabled\":true,\"fee_base_msat\":2,\"fee_proportional_millionths\":3,\"htlc_maximum_msat\":1000,\"htlc_minimum_msat\":0,\"short_channel_id_dir\":\"100x3x0/1\"}],\"constraints\":[{\"minimum_msat\":499,\"short_channel_id_dir\":\"100x3x0/1\",\"timestamp\":100}],\"created_channels\":[{\"capacity_msat\":1000000,\"destination\":\"02bbbbbbbbbbbbbbbbbbbbbbbbbbbbbbbbbbbbbbbbbbbbbbbbbbbbbbbbbbbbbbbb\",\"short_channel_id\":\"100x3x0\",\"source\":\"02aaaaaaaaaaaaaaaaaaaaaaaaaaaaaaaaaaaaaaaaaaaaaaaaaaaaaaaaaaaaaaaa\"}],\"disabled_nodes\":[\"02bbbbbbbbbbbbbbbbbbbbbbbbbbbbbbbbbbbbbbbbbbbbbbbbbbbbbbbbbbbbbbbb\"],\"layer\":\"x\"}]}}\n",
+            r#"{"id":null,"jsonrpc":"2.0","result":{"at":5,"layers":[{"biases":[{"bias":-7,"short_channel_id_dir":"100x3x0/1"}],"channel_updates":[{"cltv_expiry_delta":6,"enabled":true,"fee_base_msat":2,"fee_proportional_millionths":3,"htlc_maximum_msat":1000,"htlc_minimum_msat":0,"short_channel_id_dir":"100x3x0/1"}],"constraints":[{"minimum_msat":499,"short_channel_id_dir":"100x3x0/1","timestamp":100}],"created_channels":[{"capacity_msat":1000000,"destination":"02bbbbbbbbbbbbbbbbbbbbbbbbbbbbbbbbbbbbbbbbbbbbbbbbbbbbbbbbbbbbbbbb","short_channel_id":"100x3x0","source":"02aaaaaaaaaaaaaaaaaaaaaaaaaaaaaaaaaaaaaaaaaaaaaaaaaaaaaaaaaaaaaaaa"}],"disabled_nodes":["02bbbbbbbbbbbbbbbbbbbbbbbbbbbbbbbbbbbbbbbbbbbbbbbbbbbbbbbbbbbbbbbb"],"layer":"x"}]}}"#,
         ),
     ] {
         let Some(reply) = reply else {
             panic!(rt; "no layer at {at}");
         };
-        assert!(rt; says(alloc, event_body(alloc, at, &reply), text), "at {at}");
+        assert!(rt;
+            is_line(alloc, event_body(alloc, at, &reply), text),
+            "at {at}"
+        );
     }
 }
 
@@ -203,38 +205,51 @@ fn refusals(rt: HostRuntime) {
         (
             1,
             Refusal::LayerExists { layer: exists },
-            "{\"error\":{\"code\":301,\"data\":{\"at\":1,\"layer\":\"x\"},\"message\":\"layer exists\"},\"id\":null,\"jsonrpc\":\"2.0\"}\n",
+            r#"{"error":{"code":301,"data":{"at":1,"layer":"x"},"message":"layer exists"},"id":null,"jsonrpc":"2.0"}"#,
         ),
         (
             2,
             Refusal::LayerUnknown { layer: unknown },
-            "{\"error\":{\"code\":302,\"data\":{\"at\":2,\"layer\":\"y\"},\"message\":\"unknown layer\"},\"id\":null,\"jsonrpc\":\"2.0\"}\n",
+            r#"{"error":{"code":302,"data":{"at":2,"layer":"y"},"message":"unknown layer"},"id":null,"jsonrpc":"2.0"}"#,
         ),
         (
             1024,
             Refusal::LayersFull { count: 1024 },
-            "{\"error\":{\"code\":304,\"data\":{\"at\":1024,\"count\":1024},\"message\":\"too many layers\"},\"id\":null,\"jsonrpc\":\"2.0\"}\n",
+            r#"{"error":{"code":304,"data":{"at":1024,"count":1024},"message":"too many layers"},"id":null,"jsonrpc":"2.0"}"#,
         ),
         (
             65537,
             Refusal::LayerFull { layer: full },
-            "{\"error\":{\"code\":304,\"data\":{\"at\":65537,\"layer\":\"\\\"z\\\"\"},\"message\":\"layer full\"},\"id\":null,\"jsonrpc\":\"2.0\"}\n",
+            r#"{"error":{"code":304,"data":{"at":65537,"layer":"\"z\""},"message":"layer full"},"id":null,"jsonrpc":"2.0"}"#,
+        ),
+        (
+            2,
+            Refusal::NotReserved { index: 1 },
+            r#"{"error":{"code":305,"data":{"at":2,"index":1},"message":"not reserved"},"id":null,"jsonrpc":"2.0"}"#,
+        ),
+        (
+            3,
+            Refusal::ReservationsFull { length: 65536 },
+            r#"{"error":{"code":307,"data":{"at":3,"length":65536},"message":"too many reservations"},"id":null,"jsonrpc":"2.0"}"#,
         ),
     ] {
         let reply = EventReply::Refused(refusal);
-        assert!(rt; says(alloc, event_body(alloc, at, &reply), text), "at {at}");
+        assert!(rt;
+            is_line(alloc, event_body(alloc, at, &reply), text),
+            "not {text}"
+        );
     }
 }
 
-// a reservation that was made at moment 100, as it is listed at this moment
+// the list of a reservation made at 100, by the time of listing
 const RESERVATION_LISTS: &[(u64, &str)] = &[
     (
         130,
-        "{\"id\":null,\"jsonrpc\":\"2.0\",\"result\":{\"at\":1,\"reservations\":[{\"age_in_seconds\":30,\"amount_msat\":5,\"caller\":0,\"short_channel_id_dir\":\"100x1x0/0\"}]}}\n",
+        r#"{"id":null,"jsonrpc":"2.0","result":{"at":1,"reservations":[{"age_in_seconds":30,"amount_msat":5,"caller":0,"short_channel_id_dir":"100x1x0/0"}]}}"#,
     ),
     (
         90,
-        "{\"id\":null,\"jsonrpc\":\"2.0\",\"result\":{\"at\":1,\"reservations\":[{\"age_in_seconds\":0,\"amount_msat\":5,\"caller\":0,\"short_channel_id_dir\":\"100x1x0/0\"}]}}\n",
+        r#"{"id":null,"jsonrpc":"2.0","result":{"at":1,"reservations":[{"age_in_seconds":0,"amount_msat":5,"caller":0,"short_channel_id_dir":"100x1x0/0"}]}}"#,
     ),
 ];
 
@@ -252,7 +267,7 @@ fn listed_at(alloc: Global, now: u64) -> Option<EventReply> {
 
 fn lists_reservations(alloc: Global, now: u64, text: &str) -> bool {
     match listed_at(alloc, now) {
-        Some(reply) => says(alloc, event_body(alloc, 1, &reply), text),
+        Some(reply) => is_line(alloc, event_body(alloc, 1, &reply), text),
         None => false,
     }
 }
@@ -265,89 +280,43 @@ fn reservations(rt: HostRuntime) {
     }
 }
 
-fn refuses(alloc: Global, at: u64, refusal: Refusal, text: &str) -> bool {
-    let reply = EventReply::Refused(refusal);
-    says(alloc, event_body(alloc, at, &reply), text)
-}
-
-#[test]
-fn refusals_of_reservations(rt: HostRuntime) {
-    let alloc = rt.alloc();
-    assert!(rt;
-        refuses(
-            alloc,
-            2,
-            Refusal::NotReserved { index: 1 },
-            "{\"error\":{\"code\":305,\"data\":{\"at\":2,\"index\":1},\"message\":\"not reserved\"},\"id\":null,\"jsonrpc\":\"2.0\"}\n",
-        )
-    );
-    assert!(rt;
-        refuses(
-            alloc,
-            3,
-            Refusal::ReservationsFull { length: 65536 },
-            "{\"error\":{\"code\":307,\"data\":{\"at\":3,\"length\":65536},\"message\":\"too many reservations\"},\"id\":null,\"jsonrpc\":\"2.0\"}\n",
-        )
-    );
-}
-
 #[test]
 fn errors_without_an_entry(rt: HostRuntime) {
     let alloc = rt.alloc();
-    assert!(rt;
-        says(
-            alloc,
+    for (body, text) in [
+        (
             parse_error(alloc),
-            "{\"error\":{\"code\":-32700,\"data\":{},\"message\":\"parse error\"},\"id\":null,\"jsonrpc\":\"2.0\"}\n",
-        )
-    );
-    assert!(rt;
-        says(
-            alloc,
+            r#"{"error":{"code":-32700,"data":{},"message":"parse error"},"id":null,"jsonrpc":"2.0"}"#,
+        ),
+        (
             invalid_request(alloc),
-            "{\"error\":{\"code\":-32600,\"data\":{},\"message\":\"invalid request\"},\"id\":null,\"jsonrpc\":\"2.0\"}\n",
-        )
-    );
-    assert!(rt;
-        says(
-            alloc,
+            r#"{"error":{"code":-32600,"data":{},"message":"invalid request"},"id":null,"jsonrpc":"2.0"}"#,
+        ),
+        (
             method_not_found(alloc, "pay"),
-            "{\"error\":{\"code\":-32601,\"data\":{\"method\":\"pay\"},\"message\":\"method not found\"},\"id\":null,\"jsonrpc\":\"2.0\"}\n",
-        )
-    );
-    assert!(rt;
-        says(
-            alloc,
+            r#"{"error":{"code":-32601,"data":{"method":"pay"},"message":"method not found"},"id":null,"jsonrpc":"2.0"}"#,
+        ),
+        (
             invalid_params(alloc, "amount_msat"),
-            "{\"error\":{\"code\":-32602,\"data\":{\"name\":\"amount_msat\"},\"message\":\"invalid params\"},\"id\":null,\"jsonrpc\":\"2.0\"}\n",
-        )
-    );
-    assert!(rt;
-        says(
-            alloc,
+            r#"{"error":{"code":-32602,"data":{"name":"amount_msat"},"message":"invalid params"},"id":null,"jsonrpc":"2.0"}"#,
+        ),
+        (
             line_too_long(alloc),
-            "{\"error\":{\"code\":310,\"data\":{},\"message\":\"line too long\"},\"id\":null,\"jsonrpc\":\"2.0\"}\n",
-        )
-    );
-    assert!(rt;
-        says(
-            alloc,
+            r#"{"error":{"code":310,"data":{},"message":"line too long"},"id":null,"jsonrpc":"2.0"}"#,
+        ),
+        (
             journal_full(alloc, 4194304),
-            "{\"error\":{\"code\":306,\"data\":{\"length\":4194304},\"message\":\"journal full\"},\"id\":null,\"jsonrpc\":\"2.0\"}\n",
-        )
-    );
-    assert!(rt;
-        says(
-            alloc,
+            r#"{"error":{"code":306,"data":{"length":4194304},"message":"journal full"},"id":null,"jsonrpc":"2.0"}"#,
+        ),
+        (
             out_of_memory(alloc),
-            "{\"error\":{\"code\":399,\"data\":{},\"message\":\"out of memory\"},\"id\":null,\"jsonrpc\":\"2.0\"}\n",
-        )
-    );
-    assert!(rt;
-        says(
-            alloc,
+            r#"{"error":{"code":399,"data":{},"message":"out of memory"},"id":null,"jsonrpc":"2.0"}"#,
+        ),
+        (
             out_of_memory_at(alloc, 5),
-            "{\"error\":{\"code\":399,\"data\":{\"at\":5},\"message\":\"out of memory\"},\"id\":null,\"jsonrpc\":\"2.0\"}\n",
-        )
-    );
+            r#"{"error":{"code":399,"data":{"at":5},"message":"out of memory"},"id":null,"jsonrpc":"2.0"}"#,
+        ),
+    ] {
+        assert!(rt; is_line(alloc, body, text), "not {text}");
+    }
 }

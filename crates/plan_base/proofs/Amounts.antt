@@ -20,7 +20,7 @@ with_unit text digits e =
     let front : length (digits ++ codes "msat") - 4 ≡ length digits = omega (arith, length-append digits (codes "msat")) in
     rw (e, front, drop-append_seam digits (codes "msat")) (sym (take-append_seam digits (codes "msat")))
 
--- and one without
+-- a text that does not end with `msat`
 pub with_no_unit : (text : List ℕ) → ((front : List ℕ) → text ≢ front ++ codes "msat") → text ≡ without_unit text
 unfolding without_unit
 with_no_unit text none = rw (sym (ends_text false (codes "msat") text none)) refl

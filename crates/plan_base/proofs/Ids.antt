@@ -13,7 +13,7 @@ use Rattle.plan_base.specs.Scid.{scid_from, scid_new, scid_of, scid_text, block_
 use Rattle.plan_base.specs.Dir.{Direction, dir_of, dir_text, side_of}
 use Rattle.plan_base.proofs.Numbers.{written_number}
 
--- where a mark stands behind bytes that differ from it, it is the first
+-- a mark after bytes that differ from it is the first one
 place_of_mark : (p : ℕ → Bool) (mark : ℕ) (xs ys : List ℕ) → list_all p xs ≡ true → p mark ≡ false
     → position_or_len (λ c. c == mark) (xs ++ mark ∷ ys) ≡ length xs
 place_of_mark p mark [] ys good apart = rw (eq-eqb mark mark refl) refl
@@ -26,11 +26,11 @@ pub before_mark : (p : ℕ → Bool) (mark : ℕ) (xs ys : List ℕ) → list_al
     → before_first (λ c. c == mark) (xs ++ mark ∷ ys) ≡ xs
 before_mark p mark xs ys good apart = rw (place_of_mark p mark xs ys good apart) (take-append_seam xs (mark ∷ ys))
 
-pub behind_mark : (p : ℕ → Bool) (mark : ℕ) (xs ys : List ℕ) → list_all p xs ≡ true → p mark ≡ false
+pub after_mark : (p : ℕ → Bool) (mark : ℕ) (xs ys : List ℕ) → list_all p xs ≡ true → p mark ≡ false
     → after_first (λ c. c == mark) (xs ++ mark ∷ ys) ≡ ys
-behind_mark p mark xs ys good apart = rw (place_of_mark p mark xs ys good apart) (drop-append-add xs (mark ∷ ys) 1)
+after_mark p mark xs ys good apart = rw (place_of_mark p mark xs ys good apart) (drop-append-add xs (mark ∷ ys) 1)
 
--- `decimal` writes digits alone
+-- `decimal` writes digits only
 digits_onto_digits : (k n : ℕ) (acc : List ℕ) → list_all is_ascii_digit acc ≡ true
     → list_all is_ascii_digit (digits_onto k 10 false n acc) ≡ true
 digits_onto_digits zero n acc good = good
@@ -50,9 +50,9 @@ unfolding scid_of
 scid_of_parts a b c first second =
     rw (
       before_mark is_ascii_digit 120 a (b ++ 120 ∷ c) first refl,
-      behind_mark is_ascii_digit 120 a (b ++ 120 ∷ c) first refl,
+      after_mark is_ascii_digit 120 a (b ++ 120 ∷ c) first refl,
       before_mark is_ascii_digit 120 b c second refl,
-      behind_mark is_ascii_digit 120 b c second refl,
+      after_mark is_ascii_digit 120 b c second refl,
     ) refl
 
 pub written_scid : (n : ℕ) → n < 2 ^ 64 → scid_of (scid_text n) ≡ Some n
@@ -96,7 +96,7 @@ side_of_digit zero h = refl
 side_of_digit (suc zero) h = refl
 side_of_digit (suc (suc n)) h = absurd (omega arith)
 
--- a direction that is written is read back, as its id is
+-- a direction that is written is read back if its id is
 pub written_dir : (dir : Direction) → dir.side < 2 → scid_of (scid_text dir.scid) ≡ Some dir.scid
     → dir_of (dir_text dir) ≡ Some dir
 unfolding dir_of
@@ -104,4 +104,4 @@ written_dir dir good back =
     let text = scid_text dir.scid in
     let side = (48 + dir.side) ∷ [] in
     let high = scid_text_above_slash dir.scid in
-    rw (before_mark (nat_le 48) 47 text side high refl, behind_mark (nat_le 48) 47 text side high refl, back, side_of_digit dir.side good) refl
+    rw (before_mark (nat_le 48) 47 text side high refl, after_mark (nat_le 48) 47 text side high refl, back, side_of_digit dir.side good) refl

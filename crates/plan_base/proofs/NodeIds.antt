@@ -1,4 +1,4 @@
--- Node ids: the place of a fault, and that what is written is read back.
+-- Node ids: the position of a fault, and that a written id is read back.
 use Rattle.std.proofs.Common.{◌≡◌, ℕ, ◌==◌, min, false, List, length, take, Some, None, refl, arith}
 use Rattle.std.specs.Prelude.{not, position}
 use Rattle.std.proofs.lemmas.Grind.{common_steps}

@@ -13,7 +13,7 @@ use Rattle.plan_base.specs.Number.{is_number, number_of}
 pub own : IsNumeralModel (λ ds. list_all is_ascii_digit ds ≡ true) (digits_value 10)
 own = numerals_by_value _ (search rules)
 
--- what `parse` gives of a number's text
+-- the result of `parse` for a number's text
 pub parsed_number : {E : Type 0} (text : List ℕ) (r : Result ℕ E) → ParsesUnsigned 128 10 text r → is_number text ≡ true
     → result_ok r ≡ number_of text
 unfolding number_of

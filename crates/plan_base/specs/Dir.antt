@@ -12,11 +12,11 @@ pub record Direction : Type 0 where
 abbrev pub same_dir : Direction → Direction → Bool
 same_dir a b = a.scid == b.scid && a.side == b.side
 
--- the slash in front of the side
+-- the slash before the side
 abbrev pub is_slash : ℕ → Bool
 is_slash c = c == 47
 
--- the side that a text writes: `0` or `1`
+-- the side that a text represents: `0` or `1`
 abbrev pub side_of : List ℕ → Option ℕ
 side_of (c ∷ []) = if c == 48 then Some 0 else if c == 49 then Some 1 else None
 side_of _ = None
@@ -26,7 +26,7 @@ abbrev pub dir_from : Option ℕ → Option ℕ → Option Direction
 dir_from (Some scid) (Some side) = Some (record { scid = scid; side = side })
 dir_from _ _ = None
 
--- the direction that a text writes
+-- the direction that a text represents
 unfoldable pub dir_of : List ℕ → Option Direction
 dir_of text = dir_from (scid_of (before_first is_slash text)) (side_of (after_first is_slash text))
 

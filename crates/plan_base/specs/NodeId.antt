@@ -7,22 +7,22 @@ use Rattle.hex.specs.declared.error.FromHexError.{FromHexError}
 abbrev pub starts_as_key : List ℕ → Bool
 starts_as_key bytes = slice_index bytes 0 == 2 || slice_index bytes 0 == 3
 
--- what each node id keeps
+-- bytes that are a node id
 pub record IsNodeId (bytes : List ℕ) : Type 0 where
   pub fits : IsBytes bytes
   pub length_is : length bytes ≡ 33
   pub starts : starts_as_key bytes ≡ true
 
--- 33 bytes as a node id
+-- 33 bytes as a node id, if they start as a key does
 abbrev pub node_id_from : List ℕ → Option (List ℕ)
 node_id_from bytes = if starts_as_key bytes then Some bytes else None
 
--- the same of bytes that were decoded
+-- the node id of decoded bytes
 abbrev pub decoded_node_id : Result (List ℕ) FromHexError → Option (List ℕ)
 decoded_node_id (Ok bytes) = node_id_from bytes
 decoded_node_id (Err _) = None
 
--- the node id that a text writes
+-- the node id that a text represents
 unfoldable pub node_id_of : List ℕ → Option (List ℕ)
 node_id_of text = decoded_node_id (decode_sized text 33)
 
@@ -30,8 +30,8 @@ node_id_of text = decoded_node_id (decode_sized text 33)
 abbrev pub node_id_text : List ℕ → List ℕ
 node_id_text bytes = encode_lower bytes
 
--- where a text that is no node id is at fault: at the first of its first 66 bytes that is no digit,
--- else at its end or behind the 66th digit, else at its first byte
+-- the position at which a text is not a node id: the first of its first 66 bytes that is not a digit,
+-- else its end or the place after the 66th digit, else its first byte
 unfoldable pub id_fault_at : List ℕ → ℕ
 id_fault_at text =
     unwrap_or (position (λ c. not (is_hex_digit c)) (take 66 text))

@@ -8,6 +8,6 @@ use Rattle.std.specs.Str.Parse.{digits_value}
 abbrev pub is_number : List ℕ → Bool
 is_number text = nat_lt 0 (length text) && (nat_le (length text) 20 && list_all is_ascii_digit text)
 
--- the number that such a text writes
+-- the number that such a text represents
 unfoldable pub number_of : List ℕ → Option ℕ
 number_of text = if is_number text then Some (digits_value 10 text) else None

@@ -8,13 +8,13 @@ use Rattle.plan_base.specs.Number.{number_of}
 abbrev pub scid_number : ℕ → ℕ → ℕ → ℕ
 scid_number block transaction output = block * 2 ^ 40 + transaction * 2 ^ 16 + output
 
--- the number of three parts that are in their ranges
+-- the number of three parts, if each is in its range
 unfoldable pub scid_new : ℕ → ℕ → ℕ → Option ℕ
 scid_new block transaction output =
     if nat_lt block (2 ^ 24) && (nat_lt transaction (2 ^ 24) && nat_lt output (2 ^ 16))
     then Some (scid_number block transaction output) else None
 
--- the same of three numbers that were read
+-- the id of three parts that were read
 abbrev pub scid_from : Option ℕ → Option ℕ → Option ℕ → Option ℕ
 scid_from (Some block) (Some transaction) (Some output) = scid_new block transaction output
 scid_from _ _ _ = None
@@ -23,19 +23,21 @@ scid_from _ _ _ = None
 abbrev pub is_x : ℕ → Bool
 is_x c = c == 120
 
--- the short channel id that a text writes: three numbers with an x between each two
+-- the short channel id that a text represents: three numbers with an x between each two
 unfoldable pub scid_of : List ℕ → Option ℕ
 scid_of text =
-    let behind = after_first is_x text in
-    scid_from (number_of (before_first is_x text)) (number_of (before_first is_x behind)) (number_of (after_first is_x behind))
+    let rest = after_first is_x text in
+    scid_from (number_of (before_first is_x text)) (number_of (before_first is_x rest)) (number_of (after_first is_x rest))
 
--- the parts of a number
+-- the block in an id's number
 abbrev pub block_of : ℕ → ℕ
 block_of scid = scid / 2 ^ 40
 
+-- the transaction in its block
 abbrev pub transaction_of : ℕ → ℕ
 transaction_of scid = scid / 2 ^ 16 % 2 ^ 24
 
+-- the output of that transaction
 abbrev pub output_of : ℕ → ℕ
 output_of scid = scid % 2 ^ 16
 

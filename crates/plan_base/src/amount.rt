@@ -8,15 +8,15 @@ use std::alloc::Global;
 use std::error::Error;
 use std::fmt;
 
-/// The greatest amount, in msat: every bitcoin that there can be.
+/// The greatest amount, in msat: 21 million bitcoin.
 pub const MAX: u64 = 2_100_000_000_000_000_000;
 
-/// Why a text is no amount.
+/// Why a text is not an amount.
 #[derive(Clone, Copy, Debug, PartialEq, Eq)]
 pub enum MsatFault {
-    /// It isn't one to twenty digits, with or without `msat` behind them.
+    /// The text is not one to twenty digits, with or without `msat` after them.
     Syntax,
-    /// It has that form, and its number is above `MAX`.
+    /// The text has that form, and its number is above `MAX`.
     TooLarge,
 }
 
@@ -40,20 +40,21 @@ fn digits_of(text: &str) -> &str
     }
 }
 
-/// Reads an amount in msat: a number of at most `MAX`, with or without `msat` behind it. Takes no memory.
+/// Reads an amount in msat: a number of at most `MAX`, with or without `msat` after it. Takes no memory.
 pub fn read_msat(text: &str) -> Result<u64, MsatFault>
     ensures value { result_ok result ≡ msat_of text.now }
+    ensures limit { MAX ≡ 2100000000000000000 }
     ensures syntax { IsErrOf result MsatFault.Syntax ↔ (msat_number text.now ≡ None) }
     ensures too_large { IsErrOf result MsatFault.TooLarge ↔ IsSomeAnd (msat_number text.now) (λ number. MAX < number) }
 {
     let number = read_number(digits_of(text)).ok_or(MsatFault::Syntax)?;
     match u64::try_from(number) {
         Ok(value) if value <= MAX => Ok(value),
-        _ => Err(MsatFault::TooLarge),
+        Ok(_) | Err(_) => Err(MsatFault::TooLarge),
     }
 }
 
-/// Writes an amount in msat as its digits alone, which are read back as the same value where it is at most `MAX`.
+/// Writes an amount in msat as digits only. They are read back as the same value if it is at most `MAX`.
 #[tactic(auto, using(crate::proofs::Amounts::written_msat))]
 pub fn write_msat(alloc: Global, value: u64) -> Result<String, NoMemory>
     ensures text { IfOk result (λ text. string_bytes text ≡ decimal value) }

@@ -1,4 +1,5 @@
 ghost use Rattle.std.specs.Prelude.{◌≡◌, ◌+◌, ◌^◌, ◌<◌, ◌∷◌, [], Some, string_bytes, IfOk, IfSome};
+ghost use Rattle.std.specs.Ordering.{nat_cmp, ordering_then};
 ghost use Rattle.std.specs.Result.{result_ok};
 ghost use Rattle.plan_base.specs.Number.{number_of};
 ghost use Rattle.plan_base.specs.Scid.{scid_from, scid_new, scid_of, scid_text, block_of, transaction_of, output_of};
@@ -7,12 +8,13 @@ ghost use Rattle.plan_base.specs.Dir.{dir_of, dir_text, side_of};
 use crate::NoMemory;
 use crate::number::{cut_at, read_number};
 use std::alloc::Global;
+use std::cmp::Ordering;
 use std::error::Error;
 use std::fmt;
 use std::marker::Model;
 
-/// A short channel id: a block (24 bits), a transaction in it (24 bits) and an output of that (16 bits), as the number
-/// `block * 2^40 + transaction * 2^16 + output` (BOLT 7). Ids are ordered by that number.
+/// A short channel id: a block (24 bits), a transaction in that block (24 bits) and an output of that transaction
+/// (16 bits), as the number `block * 2^40 + transaction * 2^16 + output` (BOLT 7). Ids are ordered by that number.
 #[derive(Clone, Copy, Debug, PartialEq, Eq, PartialOrd, Ord, Hash)]
 pub struct Scid {
     number: u64,
@@ -28,7 +30,7 @@ impl Model for Scid {
     ghost inverse = { λ number. record { number = number } };
 }
 
-/// The text isn't a short channel id, or not a direction.
+/// The text is not a short channel id, or not a direction.
 #[derive(Clone, Copy, Debug, PartialEq, Eq)]
 pub struct ScidFault;
 
@@ -51,7 +53,7 @@ fn read_parts(block: &str, transaction: &str, output: &str) -> Option<Scid>
 }
 
 impl Scid {
-    /// The id of these parts. None exactly where the block or the transaction has more than 24 bits.
+    /// The id of these parts. None if and only if the block or the transaction has more than 24 bits.
     #[tactic(auto, unfolding(crate::specs::Scid::scid_new))]
     pub fn new(block: u32, transaction: u32, output: u16) -> Option<Scid>
         ensures { result ≡ scid_new block transaction output }
@@ -72,6 +74,13 @@ impl Scid {
         ensures { result ≡ self.now }
     {
         self.number
+    }
+
+    /// The order of ids: by number.
+    pub fn compare(&self, other: &Scid) -> Ordering
+        ensures { result ≡ nat_cmp self.now other.now }
+    {
+        self.cmp(other)
     }
 
     /// The block, of 24 bits.
@@ -97,18 +106,18 @@ impl Scid {
         (self.number & 0xffff) as u16
     }
 
-    /// Reads three decimal numbers with a lower case x between each two; leading zeros are accepted. Takes no memory.
+    /// Reads three decimal numbers with a lower case x between each two. Leading zeros are accepted. Takes no memory.
     #[tactic(auto, unfolding(crate::specs::Scid::scid_of))]
     pub fn read(text: &str) -> Result<Scid, ScidFault>
         ensures { result_ok result ≡ scid_of text.now }
     {
-        let (block, behind) = cut_at(text, 'x');
-        let (transaction, output) = cut_at(behind, 'x');
+        let (block, rest) = cut_at(text, 'x');
+        let (transaction, output) = cut_at(rest, 'x');
         read_parts(block, transaction, output).ok_or(ScidFault)
     }
 
-    /// Writes `block x transaction x output` without the spaces and without leading zeros, which is read back as the same
-    /// id.
+    /// Writes `block x transaction x output` without the spaces and without leading zeros. The text is read back as the
+    /// same id.
     #[tactic(auto, using(crate::proofs::Ids::written_scid), unfolding(crate::specs::Scid::scid_text))]
     pub fn write(&self, alloc: Global) -> Result<String, NoMemory>
         ensures text { IfOk result (λ text. string_bytes text ≡ scid_text self.now) }
@@ -123,7 +132,7 @@ impl Scid {
 pub struct Dir {
     /// The channel.
     pub scid: Scid,
-    /// 0 where the direction leads from the node with the lesser id, else 1 (BOLT 7).
+    /// 0 if the direction leads from the node with the lesser id, else 1 (BOLT 7).
     pub side: u8,
 }
 
@@ -159,6 +168,13 @@ fn side_text(side: u8) -> &'static str
 }
 
 impl Dir {
+    /// The order of directions: by the channel's number, then by side.
+    pub fn compare(&self, other: &Dir) -> Ordering
+        ensures { result ≡ ordering_then (nat_cmp self.now.scid other.now.scid) (nat_cmp self.now.side other.now.side) }
+    {
+        self.cmp(other)
+    }
+
     /// Reads a short channel id, a slash, and `0` or `1`. Takes no memory.
     #[tactic(auto, unfolding(crate::specs::Dir::dir_of))]
     pub fn read(text: &str) -> Result<Dir, ScidFault>
@@ -167,11 +183,11 @@ impl Dir {
         let (scid, side) = cut_at(text, '/');
         match (Scid::read(scid), read_side(side)) {
             (Ok(scid), Some(side)) => Ok(Dir { scid, side }),
-            _ => Err(ScidFault),
+            (Err(_), _) | (Ok(_), None) => Err(ScidFault),
         }
     }
 
-    /// Writes the short channel id, a slash and the side, which are read back as the same direction.
+    /// Writes the short channel id, a slash and the side. The text is read back as the same direction.
     pub fn write(&self, alloc: Global) -> Result<String, NoMemory>
         ensures text { IfOk result (λ text. string_bytes text ≡ dir_text self.now) }
         ensures read_back { IfOk result (λ text. dir_of (string_bytes text) ≡ Some self.now) }

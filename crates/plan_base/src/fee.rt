@@ -1,7 +1,7 @@
 ghost use Rattle.std.specs.Prelude.{◌≡◌, ◌+◌};
 ghost use Rattle.plan_base.specs.Fee.{fee_on};
 
-/// What a channel asks for forwarding: a base fee in msat, a part of the amount in ppm, and blocks of delay.
+/// What a channel charges for forwarding: a base fee in msat, a fee in millionths of the amount, and a delay in blocks.
 #[derive(Clone, Copy, Debug, PartialEq, Eq)]
 pub struct Toll {
     pub base: u32,
@@ -9,7 +9,7 @@ pub struct Toll {
     pub delay: u16,
 }
 
-/// An amount in msat and the fee for forwarding it, `base + floor(carried * ppm / 1000000)` (BOLT 7).
+/// The sum of an amount in msat and the fee for forwarding it, `base + floor(carried * ppm / 1000000)` (BOLT 7).
 pub fn add_fee(carried: u64, base: u32, ppm: u32) -> u128
     ensures { result ≡ carried + fee_on carried base ppm }
 {

@@ -1,6 +1,6 @@
 use crate::Dir;
 
-/// An amount on a direction that is to be set aside, or to be free again.
+/// An amount on a direction that is to be reserved or unreserved.
 #[derive(Clone, Copy, Debug, PartialEq, Eq)]
 pub struct Held {
     /// The direction.
@@ -9,7 +9,7 @@ pub struct Held {
     pub amount: u64,
 }
 
-/// An amount that was set aside on a direction, since a payment over it is about to be sent.
+/// An amount that is reserved on a direction, because a payment over it is about to be sent.
 #[derive(Clone, Copy, Debug, PartialEq, Eq)]
 pub struct Reservation {
     /// The direction.

@@ -4,7 +4,7 @@ use crate::NoMemory;
 use std::alloc::Global;
 use std::marker::Model;
 
-/// A `Vec` that contracts see as the list of its items, so that two of them with the same items are equal.
+/// A `Vec` that contracts see as the list of its items: two of them with the same items are equal.
 #[derive(Debug, Drop)]
 pub struct Items<T> {
     items: Vec<T>,
@@ -22,7 +22,7 @@ impl<T> Model for Items<T> {
 }
 
 impl<T> Items<T> {
-    /// No items; no memory is taken.
+    /// Contains no items. Takes no memory.
     pub fn new(alloc: Global) -> Items<T>
         ensures { result ≡ [] }
     {
@@ -31,7 +31,7 @@ impl<T> Items<T> {
         }
     }
 
-    /// Takes over the items of a `Vec`; no memory is taken.
+    /// Owns the items of a `Vec`. Takes no memory.
     pub fn from_vec(items: Vec<T>) -> Items<T>
         ensures { result ≡ items.items }
     {
@@ -45,7 +45,7 @@ impl<T> Items<T> {
         self.items.as_slice()
     }
 
-    /// Gives the `Vec` back; no memory is taken.
+    /// Returns the `Vec`. Takes no memory.
     pub fn into_vec(self) -> Vec<T>
         ensures { result.items ≡ self }
     {
@@ -54,7 +54,7 @@ impl<T> Items<T> {
 }
 
 impl<T: Drop> Items<T> {
-    /// Adds an item at the end.
+    /// Appends an item.
     pub fn push(&mut self, item: T) -> Result<(), NoMemory>
         ensures ok { OnOk result (self.new ≡ self.old ++ item ∷ []) }
         ensures err { OnErr result (self.new ≡ self.old) }

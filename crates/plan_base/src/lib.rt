@@ -1,5 +1,5 @@
-//! Values that every crate of askrened speaks of: node ids, short channel ids, directions and amounts with their texts,
-//! want of memory, and lists and texts that clauses can compare.
+//! The values that all crates share: node ids, short channel ids, directions and amounts, how each is read and written
+//! as text, the out-of-memory error, and lists and texts that contracts can compare.
 #![tactic(auto)]
 
 mod amount;

@@ -2,7 +2,7 @@ use std::alloc::{AllocError, AllocFailed};
 use std::error::Error;
 use std::fmt;
 
-/// The allocator had no memory. Any call that allocates may answer this, at any place in its order of refusals.
+/// Out of memory. Any call that allocates may return this, before or after any of its other refusals.
 #[derive(Clone, Copy, Debug, PartialEq, Eq)]
 pub struct NoMemory;
 

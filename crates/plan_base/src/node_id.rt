@@ -1,16 +1,19 @@
 ghost use Rattle.std.specs.Prelude.{◌≡◌, Some, not, position, string_bytes, IfOk, IfErr};
+ghost use Rattle.std.specs.Ordering.{nat_cmp};
+ghost use Rattle.std.specs.Cmp.Lexicographic.{slice_cmp};
 ghost use Rattle.std.specs.Result.{result_ok};
 ghost use Rattle.hex.specs.Hex.{is_hex_digit};
 ghost use Rattle.plan_base.specs.NodeId.{node_id_from, node_id_of, node_id_text, id_fault_at};
 
 use crate::NoMemory;
 use std::alloc::Global;
+use std::cmp::Ordering;
 use std::error::Error;
 use std::fmt;
 use std::marker::Model;
 
 /// The id of a Lightning node: a compressed public key of 33 bytes, the first of them 2 or 3 (BOLT 7).
-/// Ids are ordered as bytes.
+/// Ids are ordered by their bytes, the first byte first.
 #[derive(Clone, Copy, Debug, PartialEq, Eq, PartialOrd, Ord, Hash)]
 pub struct NodeId {
     bytes: [u8; 33],
@@ -29,11 +32,11 @@ impl Model for NodeId {
     ghost inverse = { λ bytes. record { bytes = bytes } };
 }
 
-/// Where a text that is no node id is at fault.
+/// The position at which a text is not a node id.
 #[derive(Clone, Copy, Debug, PartialEq, Eq)]
 pub struct IdFault {
-    /// The least place below 66 of a byte that is no hexadecimal digit; else, where the text hasn't 66 bytes, the lesser
-    /// of its length and 66; else 0, since the first byte is neither 02 nor 03.
+    /// The first position below 66 with a byte that is not a hexadecimal digit. If there is none and the text does not
+    /// have 66 bytes, the lesser of its length and 66. Else 0, because the first byte is neither 02 nor 03.
     pub at: usize,
 }
 
@@ -91,6 +94,13 @@ impl NodeId {
         }
     }
 
+    /// The order of ids: by bytes, the first byte first.
+    pub fn compare(&self, other: &NodeId) -> Ordering
+        ensures { result ≡ slice_cmp nat_cmp self.now other.now }
+    {
+        self.cmp(other)
+    }
+
     /// Reads 66 hexadecimal digits of either case whose first byte is 02 or 03. Takes no memory.
     pub fn read(text: &str) -> Result<NodeId, IdFault>
         ensures value { result_ok result ≡ node_id_of text.now }
@@ -102,7 +112,7 @@ impl NodeId {
         }
     }
 
-    /// Writes 66 lower case hexadecimal digits, which are read back as the same id.
+    /// Writes 66 lower case hexadecimal digits. The text is read back as the same id.
     pub fn write(&self, alloc: Global) -> Result<String, NoMemory>
         ensures text { IfOk result (λ text. string_bytes text ≡ node_id_text self.now) }
         ensures read_back { IfOk result (λ text. node_id_of (string_bytes text) ≡ Some self.now) }

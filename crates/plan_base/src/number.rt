@@ -15,7 +15,7 @@ fn is_number_text(text: &str) -> bool
     0 < text.len() && text.len() <= 20 && all_digits(text)
 }
 
-/// The number that a text of one to twenty digits writes; leading zeros are accepted. None for every other text.
+/// The number that a text of one to twenty digits represents. Leading zeros are accepted. None for every other text.
 #[tactic(auto, using(crate::proofs::Numbers::parsed_number), unfolding(crate::specs::Number::number_of))]
 pub(crate) fn read_number(text: &str) -> Option<u128>
     ensures { result ≡ number_of text.now }
@@ -27,11 +27,11 @@ pub(crate) fn read_number(text: &str) -> Option<u128>
     }
 }
 
-/// What stands before and behind the first `mark`; nothing stands behind where there is none.
+/// The text before and after the first `mark`. Without a mark the second text is empty.
 pub(crate) fn cut_at(text: &str, mark: char) -> (&str, &str)
     requires { mark < 128 }
     ensures before { result.0.now ≡ before_first (λ c. c == mark) text.now }
-    ensures behind { result.1.now ≡ after_first (λ c. c == mark) text.now }
+    ensures after { result.1.now ≡ after_first (λ c. c == mark) text.now }
 {
     match text.split_once(mark) {
         Some(parts) => parts,

@@ -4,7 +4,7 @@ use crate::NoMemory;
 use std::alloc::Global;
 use std::marker::Model;
 
-/// A text that contracts see as its bytes, so that two texts with the same bytes are equal.
+/// A text that contracts see as its bytes: two texts with the same bytes are equal.
 #[derive(Debug, Drop)]
 pub struct Text {
     text: String,
@@ -19,14 +19,14 @@ impl Model for Text {
 }
 
 impl Text {
-    /// Takes over a text; no memory is taken.
+    /// Owns a text. Takes no memory.
     pub fn from_string(text: String) -> Text
         ensures { result ≡ string_bytes text }
     {
         Text { text }
     }
 
-    /// A text with the bytes of `text`.
+    /// Copies a text.
     pub fn from_text(alloc: Global, text: &str) -> Result<Text, NoMemory>
         ensures { IfOk result (λ t. t ≡ text.now) }
     {
@@ -34,21 +34,21 @@ impl Text {
         Ok(Text { text })
     }
 
-    /// The text itself.
+    /// Borrows the text.
     pub fn as_str(&self) -> &str
         ensures { result.now ≡ self.now }
     {
         self.text.as_str()
     }
 
-    /// Gives the text back; no memory is taken.
+    /// Returns the text. Takes no memory.
     pub fn into_string(self) -> String
         ensures { string_bytes result ≡ self }
     {
         self.text
     }
 
-    /// An equal text.
+    /// Copies the text.
     pub fn copy(&self, alloc: Global) -> Result<Text, NoMemory>
         ensures { IfOk result (λ t. t ≡ self.now) }
     {

@@ -6,3 +6,4 @@ pub mod MemPlaces
 pub mod MemSink
 pub mod MemSource
 pub mod Moments
+pub mod Taken

@@ -1,4 +1,4 @@
--- A clock in memory, by the moments that it has left.
+-- The contents of a clock in memory.
 use Rattle.std.specs.Prelude.{ℕ, List, drop}
 use Rattle.port_io.specs.declared.mem_clock.MemClock.{MemClock}
 

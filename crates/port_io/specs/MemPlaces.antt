@@ -1,9 +1,10 @@
--- Files in memory, by name.
+-- The contents of files in memory, and the settings of their faults.
 use Rattle.std.specs.Prelude.{ℕ, List}
 use Rattle.std.specs.declared.option.Option.{Option}
 use Rattle.port_io.specs.FileList.{file_in}
 use Rattle.port_io.specs.declared.mem_places.MemPlaces.{MemPlaces}
 
+-- the bytes of the file with a name
 abbrev pub places_file : MemPlaces → List ℕ → Option (List ℕ)
 places_file p name = file_in p.files.items name
 

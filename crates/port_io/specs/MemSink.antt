@@ -1,4 +1,4 @@
--- A sink in memory, by what it holds and what it was told to do.
+-- The contents of a sink in memory, and the settings of its faults.
 use Rattle.std.specs.Prelude.{ℕ, ◌-◌, List, vec_len, vec_capacity}
 use Rattle.port_io.specs.declared.mem_sink.MemSink.{MemSink}
 
@@ -6,7 +6,7 @@ use Rattle.port_io.specs.declared.mem_sink.MemSink.{MemSink}
 abbrev pub sink_bytes : MemSink → List ℕ
 sink_bytes s = s.bytes.items
 
--- how many bytes more there is room for
+-- how many more bytes there is room for
 abbrev pub sink_room : MemSink → ℕ
 sink_room s = vec_capacity s.bytes - vec_len s.bytes
 

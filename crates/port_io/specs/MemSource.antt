@@ -1,4 +1,4 @@
--- A source in memory, by what it has left and what it was told to do.
+-- The contents of a source in memory, and the settings of its faults.
 use Rattle.std.specs.Prelude.{ℕ, List, drop}
 use Rattle.port_io.specs.declared.mem_source.MemSource.{MemSource}
 
@@ -6,7 +6,7 @@ use Rattle.port_io.specs.declared.mem_source.MemSource.{MemSource}
 abbrev pub source_left : MemSource → List ℕ
 source_left s = drop s.at s.bytes.items
 
--- the most bytes that a call gives
+-- the most bytes that a call returns
 abbrev pub source_piece : MemSource → ℕ
 source_piece s = s.piece
 

@@ -2,7 +2,7 @@ use std::alloc::AllocError;
 use std::error::Error;
 use std::fmt;
 
-/// A read, a write or an accept failed. The count of faults of its object tells that it did.
+/// A read, a write or an accept failed. The object's count of faults has risen.
 #[derive(Clone, Copy, Debug, PartialEq, Eq)]
 pub struct Failed;
 
@@ -14,14 +14,14 @@ impl fmt::Display for Failed {
 
 impl Error for Failed {}
 
-/// Why a file was not read whole.
+/// Why the bytes of a file or source could not be read whole.
 #[derive(Clone, Copy, Debug, PartialEq, Eq)]
 pub enum PlaceFault {
-    /// The file could not be opened or read. The count of faults tells that it was so.
+    /// The file could not be opened or read. The count of faults has risen.
     Failed,
     /// The file has more bytes than the limit.
     Long,
-    /// The allocator had no memory.
+    /// Out of memory.
     NoMemory,
 }
 

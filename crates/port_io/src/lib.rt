@@ -1,9 +1,11 @@
-//! The outside, as the rest of askrened sees it: streams, files and a clock, each with a count of its faults.
-//! A trait says what a call did; its forms in memory tell all that they hold, those over the real things tell nothing.
+//! Input, output, files and the clock as traits, each with an implementation in memory and one over std. Every object
+//! counts its faults. The contents of the in-memory versions are specified completely; those of the system's own
+//! streams and files are unspecified.
 #![tactic(auto)]
 
 mod clock;
 mod fault;
+mod limited_read;
 mod mem_clock;
 mod mem_places;
 mod mem_sink;
@@ -19,6 +21,7 @@ mod tests;
 
 pub use clock::Clock;
 pub use fault::{Failed, PlaceFault};
+pub use limited_read::{PIECE, read_limited};
 pub use mem_clock::MemClock;
 pub use mem_places::MemPlaces;
 pub use mem_sink::MemSink;

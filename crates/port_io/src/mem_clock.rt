@@ -2,7 +2,7 @@ ghost use Rattle.std.specs.Prelude.{◌≡◌, Some};
 
 use crate::Clock;
 
-/// A clock in memory: it gives its moments in order, repeats the last, and gives 0 where it has none.
+/// A clock in memory: it returns its moments in order, repeats the last, and returns 0 if it has none.
 #[derive(Debug, Drop)]
 pub struct MemClock {
     moments: Vec<u64>,
@@ -12,7 +12,7 @@ pub struct MemClock {
 impl MemClock {
     ghost use Rattle.port_io.specs.MemClock.{clock_left};
 
-    /// A clock that gives these moments.
+    /// Creates a clock with these moments.
     pub fn new(moments: Vec<u64>) -> MemClock
         ensures { clock_left result ≡ moments.items }
     {

@@ -1,4 +1,4 @@
-ghost use Rattle.std.specs.Prelude.{◌≡◌, ◌==◌, ℕ, List, true, false, None, IsSome, IsErrOf};
+ghost use Rattle.std.specs.Prelude.{◌≡◌, ◌==◌, ◌+◌, ◌-◌, ◌^◌, min, ℕ, List, true, false, None, IsSome, IsErrOf};
 ghost use Rattle.std.specs.List.{list_any};
 ghost use Rattle.std.specs.Option.{option_map};
 ghost use Rattle.port_io.specs.FileList.{file_in};
@@ -6,8 +6,8 @@ ghost use Rattle.port_io.specs.FileList.{file_in};
 use crate::{PlaceFault, Places};
 use std::alloc::Global;
 
-/// Files in memory. Of several files with one name the first counts; reading a name that isn't there is a fault, and
-/// so is each call that is listed, from 0.
+/// Files in memory. Of several files with one name the first counts. Reading a name that does not exist is a fault, and
+/// so is each call whose number, counted from 0, is in `fails`.
 #[derive(Debug, Drop)]
 pub struct MemPlaces {
     files: Vec<(String, Vec<u8>)>,
@@ -19,7 +19,7 @@ pub struct MemPlaces {
 impl MemPlaces {
     ghost use Rattle.port_io.specs.MemPlaces.{places_file, places_fails, places_calls, places_faults};
 
-    /// These files, by name.
+    /// Creates these files, each with its name.
     pub fn new(files: Vec<(String, Vec<u8>)>, fails: Vec<u64>) -> MemPlaces
         ensures files { (name : List ℕ) → places_file result name ≡ file_in files.items name }
         ensures fails { places_fails result ≡ fails.items }
@@ -49,8 +49,11 @@ impl Places for MemPlaces {
         ensures same { (other : List ℕ) → places_file self.new other ≡ places_file self.old other }
         ensures listed { list_any (λ call. call == places_calls self.old) (places_fails self.old) ≡ true → IsErrOf result PlaceFault.Failed }
         ensures missing { places_file self.old name.now ≡ None → IsErrOf result PlaceFault.Failed }
-        ensures there { list_any (λ call. call == places_calls self.old) (places_fails self.old) ≡ false
+        ensures found { list_any (λ call. call == places_calls self.old) (places_fails self.old) ≡ false
             → IsSome (places_file self.old name.now) → ¬ (IsErrOf result PlaceFault.Failed) }
+        ensures fails { places_fails self.new ≡ places_fails self.old }
+        ensures calls { places_calls self.new ≡ min (places_calls self.old + 1) (2 ^ 64 - 1) }
+        ensures counted { ¬ (IsErrOf result PlaceFault.Failed) → places_faults self.new ≡ places_faults self.old }
     {
         let call = self.calls;
         self.calls = call.saturating_add(1);
@@ -69,7 +72,7 @@ impl Places for MemPlaces {
     }
 }
 
-// The bytes of the first file with this name.
+// Returns the bytes of the first file with this name.
 fn find_file<'a>(files: &'a [(String, Vec<u8>)], name: &str) -> Option<&'a Vec<u8>>
     ensures { option_map (λ bytes. bytes.now.items) result ≡ file_in files.now name.now }
 {

@@ -1,4 +1,4 @@
-ghost use Rattle.std.specs.Prelude.{ℕ, List, ◌≡◌, ◌<◌, ◌≤◌, [], min, length, Some, IfOk, OnOk, OnErr, is_err, None, nat_lt, ◌==◌, ◌||◌, ◌&&◌};
+ghost use Rattle.std.specs.Prelude.{ℕ, List, ◌≡◌, ◌<◌, ◌≤◌, ◌+◌, ◌-◌, ◌^◌, [], min, length, Some, IfOk, OnOk, OnErr, is_err, None, nat_lt, ◌==◌, ◌||◌, ◌&&◌};
 ghost use Rattle.std.specs.List.{list_any};
 ghost use Rattle.std.specs.Io.{WritesAtMost};
 ghost use Rattle.std.specs.Io.KnownBytes.{WriteAppends};
@@ -8,8 +8,8 @@ use crate::{Failed, Sink};
 use plan_base::NoMemory;
 use std::alloc::Global;
 
-/// A sink in memory: it takes at most `piece` bytes a call, fails at the calls that are listed, from 0, and where
-/// no room is left. `reserve` makes room.
+/// A sink in memory: it takes at most `piece` bytes in a call. A call fails if its number, counted from 0, is in
+/// `fails`, or if no room is left. `reserve` makes room.
 #[derive(Debug, Drop)]
 pub struct MemSink {
     bytes: Vec<u8>,
@@ -23,7 +23,7 @@ pub struct MemSink {
 impl MemSink {
     ghost use Rattle.port_io.specs.MemSink.{sink_bytes, sink_room, sink_piece, sink_fails, sink_calls, sink_faults};
 
-    /// An empty sink that takes at most `piece` bytes a call, at least 1.
+    /// Creates an empty sink that takes at most `piece` bytes in a call; `piece` is at least 1.
     pub fn new(alloc: Global, piece: usize, fails: Vec<u64>) -> MemSink
         requires { 0 < piece }
         ensures bytes { sink_bytes result ≡ [] }
@@ -41,14 +41,14 @@ impl MemSink {
         }
     }
 
-    /// The bytes that were taken.
+    /// Returns the bytes that were taken.
     pub fn bytes(&self) -> &[u8]
         ensures { result.now ≡ sink_bytes self.now }
     {
         &self.bytes
     }
 
-    /// Makes room for so many bytes more.
+    /// Makes room for `bytes` more bytes.
     pub fn reserve(&mut self, bytes: usize) -> Result<(), NoMemory>
         ensures room { OnOk result (bytes ≤ sink_room self.new) }
         ensures bytes { sink_bytes self.new ≡ sink_bytes self.old }
@@ -78,6 +78,12 @@ impl Sink for MemSink {
         ensures nothing { TakesSome (sink_faults self.old) (sink_faults self.new) from.now result }
         ensures failing { is_err result ≡ (list_any (λ call. call == sink_calls self.old) (sink_fails self.old) || (sink_room self.old == 0 && nat_lt 0 (length from.now))) }
         ensures count { IfOk result (λ n. n ≡ min (sink_piece self.old) (min (length from.now) (sink_room self.old))) }
+        ensures room { IfOk result (λ n. sink_room self.old ≤ sink_room self.new + n) }
+        ensures same_room { OnErr result (sink_room self.new ≡ sink_room self.old) }
+        ensures piece { sink_piece self.new ≡ sink_piece self.old }
+        ensures fails { sink_fails self.new ≡ sink_fails self.old }
+        ensures calls { sink_calls self.new ≡ min (sink_calls self.old + 1) (2 ^ 64 - 1) }
+        ensures counted { OnOk result (sink_faults self.new ≡ sink_faults self.old) }
     {
         let call = self.calls;
         self.calls = call.saturating_add(1);

@@ -1,4 +1,4 @@
-ghost use Rattle.std.specs.Prelude.{ℕ, List, ◌≡◌, ◌<◌, ◌≤◌, [], min, length, take, Some, IfOk, is_err, ◌==◌, None};
+ghost use Rattle.std.specs.Prelude.{ℕ, List, ◌≡◌, ◌<◌, ◌≤◌, ◌+◌, ◌-◌, ◌^◌, [], min, length, take, Some, IfOk, OnOk, is_err, ◌==◌, None};
 ghost use Rattle.std.specs.List.{list_any};
 ghost use Rattle.std.specs.Io.{ReadsAtMost};
 ghost use Rattle.std.specs.Io.KnownBytes.{ReadConsumes};
@@ -6,7 +6,8 @@ ghost use Rattle.port_io.specs.Faults.{HasCause};
 
 use crate::{Failed, Source};
 
-/// A source in memory: it gives at most `piece` bytes a call, and fails at the calls that are listed, from 0.
+/// A source in memory: it returns at most `piece` bytes in a call. A call fails if its number, counted from 0, is in
+/// `fails`.
 #[derive(Debug, Drop)]
 pub struct MemSource {
     bytes: Vec<u8>,
@@ -22,7 +23,7 @@ pub struct MemSource {
 impl MemSource {
     ghost use Rattle.port_io.specs.MemSource.{source_left, source_piece, source_fails, source_calls, source_faults};
 
-    /// A source of these bytes, in pieces of at most `piece` bytes, at least 1.
+    /// Creates a source of these bytes, in pieces of at most `piece` bytes; `piece` is at least 1.
     pub fn new(bytes: Vec<u8>, piece: usize, fails: Vec<u64>) -> MemSource
         requires { 0 < piece }
         ensures left { source_left result ≡ bytes.items }
@@ -60,6 +61,8 @@ impl Source for MemSource {
         ensures count { IfOk result (λ n. n ≡ min (source_piece self.old) (min (length into.new) (length (source_left self.old)))) }
         ensures piece { source_piece self.new ≡ source_piece self.old }
         ensures fails { source_fails self.new ≡ source_fails self.old }
+        ensures calls { source_calls self.new ≡ min (source_calls self.old + 1) (2 ^ 64 - 1) }
+        ensures counted { OnOk result (source_faults self.new ≡ source_faults self.old) }
     {
         let call = self.calls;
         self.calls = call.saturating_add(1);
@@ -73,7 +76,7 @@ impl Source for MemSource {
     }
 }
 
-// Copies the first bytes of `rest` to the front of `into`, at most `most` of them, and says how many.
+// Copies the first bytes of `rest`, at most `most` of them, to the start of `into`, and returns how many.
 fn copy_front(rest: &[u8], into: &mut [u8], most: usize) -> usize
     ensures count { result ≡ min most (min (length into.new) (length rest.now)) }
     ensures bytes { take result into.new ≡ take result rest.now }

@@ -7,9 +7,9 @@ pub enum SessionEnd {
     ReadFault,
     /// A write of the output failed.
     WriteFault,
-    /// There was no memory, not even for the reply that says so.
+    /// Out of memory, even for the error reply.
     NoMemory,
-    /// There was a line behind the most lines of a session.
+    /// The input has more lines than a session may have.
     Full,
     /// A line was too long.
     Long,

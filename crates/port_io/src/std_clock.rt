@@ -4,14 +4,14 @@ use crate::Clock;
 use std::time;
 use std::time::{SystemTime, UNIX_EPOCH};
 
-/// The clock of the system. It tells no moments.
+/// The clock of the system. Its moments are unspecified.
 #[derive(Drop)]
 pub struct StdClock<K> {
     inner: K,
 }
 
 impl<K: time::Clock> StdClock<K> {
-    /// A clock over the runtime's own.
+    /// Creates a clock over the runtime's own.
     pub fn new(inner: K) -> StdClock<K> {
         StdClock { inner }
     }
@@ -20,7 +20,7 @@ impl<K: time::Clock> StdClock<K> {
 impl<K: time::Clock> Clock for StdClock<K> {
     ghost moments = { λ c. None };
 
-    /// 0 where the clock can't be read or stands before 1970.
+    /// Returns 0 if the clock cannot be read or shows a time before 1970.
     fn now(&mut self) -> u64 {
         let Ok(moment) = SystemTime::now(&self.inner) else {
             return 0;

@@ -1,11 +1,11 @@
-ghost use Rattle.std.specs.Prelude.{None, ◌≤◌, length, IfOk};
+ghost use Rattle.std.specs.Prelude.{None};
 
-use crate::{PlaceFault, Places};
+use crate::{PlaceFault, Places, StdSource, read_limited};
 use std::alloc::Global;
 use std::fs::{File, Files};
-use std::io::{ErrorKind, Read};
 
-/// The files of the system. It tells no content.
+/// The files of the system. Their contents are unspecified. Every `Err` counts as a fault, also of an interrupted read,
+/// which is tried again.
 #[derive(Drop)]
 pub struct StdPlaces<F> {
     files: F,
@@ -13,13 +13,11 @@ pub struct StdPlaces<F> {
 }
 
 impl<F: Files> StdPlaces<F> {
-    /// The files that the runtime reaches.
+    /// The files that the runtime can open.
     pub fn new(files: F) -> StdPlaces<F> {
         StdPlaces { files, faults: 0 }
     }
 }
-
-const PIECE: usize = 65_536;
 
 impl<F: Files> Places for StdPlaces<F> {
     ghost file = { λ s name. None };
@@ -32,36 +30,13 @@ impl<F: Files> Places for StdPlaces<F> {
         name: &str,
         limit: usize,
     ) -> Result<Vec<u8>, PlaceFault> {
-        let taken = match File::open(&self.files, name) {
-            Ok(mut file) => take_whole(alloc, &mut file, limit),
-            Err(_) => Err(PlaceFault::Failed),
-        };
-        if let Err(PlaceFault::Failed) = taken {
+        let Ok(file) = File::open(&self.files, name) else {
             self.faults = self.faults.saturating_add(1);
-        }
+            return Err(PlaceFault::Failed);
+        };
+        let mut source = StdSource::new(file);
+        let taken = read_limited(alloc, &mut source, limit);
+        self.faults = self.faults.saturating_add(source.faults());
         taken
     }
-}
-
-// All bytes of a reader that has at most `limit` of them.
-fn take_whole<R: Read>(alloc: Global, from: &mut R, limit: usize) -> Result<Vec<u8>, PlaceFault>
-    ensures { IfOk result (λ bytes. length bytes.items ≤ limit) }
-{
-    let mut bytes = Vec::new(alloc);
-    let mut piece = [0; PIECE];
-    'pieces: for _ in 0..u64::MAX {
-        let count = match from.read(&mut piece) {
-            Ok(count) => count,
-            Err(fault) if fault.kind() == ErrorKind::Interrupted => continue 'pieces,
-            Err(_) => return Err(PlaceFault::Failed),
-        };
-        if count == 0 {
-            return Ok(bytes);
-        }
-        if count > limit - bytes.len() {
-            return Err(PlaceFault::Long);
-        }
-        bytes.extend_from_slice(&piece[..count])?;
-    }
-    Err(PlaceFault::Failed)
 }

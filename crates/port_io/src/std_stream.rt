@@ -3,7 +3,8 @@ ghost use Rattle.std.specs.Prelude.{◌≡◌, None};
 use crate::{Failed, Sink, Source};
 use std::io::{ErrorKind, Read, Write};
 
-/// A source over any reader of std. It tells no content.
+/// A source over any reader of std. Its bytes are known if those of the reader are. It counts every `Err` of the reader
+/// as a fault, also of an interrupted read, which it tries again.
 #[derive(Drop)]
 pub struct StdSource<R> {
     inner: R,
@@ -11,14 +12,23 @@ pub struct StdSource<R> {
 }
 
 impl<R: Read> StdSource<R> {
-    /// A source that reads from `inner`, and has not failed yet.
-    pub fn new(inner: R) -> StdSource<R> {
+    /// Creates a source that reads from `inner` and has not failed yet.
+    pub fn new(inner: R) -> StdSource<R>
+        ensures { result ≡ record { inner = inner; faults = 0 } }
+    {
         StdSource { inner, faults: 0 }
+    }
+
+    /// Returns how often a read has failed.
+    pub(crate) fn faults(&self) -> u64
+        ensures { result ≡ self.now.faults }
+    {
+        self.faults
     }
 }
 
 impl<R: Read> Source for StdSource<R> {
-    ghost left = { λ s. None };
+    ghost left = { λ s. R.remaining s.inner };
 
     ghost read_faults = { λ s. s.faults };
 
@@ -41,7 +51,8 @@ impl<R: Read> Source for StdSource<R> {
     }
 }
 
-/// A sink over any writer of std. It tells no content.
+/// A sink over any writer of std. Its bytes are known if those of the writer are. It counts every `Err` of the writer as a
+/// fault, also of an interrupted write, which it tries again.
 #[derive(Drop)]
 pub struct StdSink<W> {
     inner: W,
@@ -49,14 +60,16 @@ pub struct StdSink<W> {
 }
 
 impl<W: Write> StdSink<W> {
-    /// A sink that writes to `inner`, and has not failed yet.
-    pub fn new(inner: W) -> StdSink<W> {
+    /// Creates a sink that writes to `inner` and has not failed yet.
+    pub fn new(inner: W) -> StdSink<W>
+        ensures { result ≡ record { inner = inner; faults = 0 } }
+    {
         StdSink { inner, faults: 0 }
     }
 }
 
 impl<W: Write> Sink for StdSink<W> {
-    ghost written = { λ s. None };
+    ghost written = { λ s. W.contents s.inner };
 
     ghost write_faults = { λ s. s.faults };
 
@@ -69,7 +82,7 @@ impl<W: Write> Sink for StdSink<W> {
                 Err(fault) if fault.kind() == ErrorKind::Interrupted => {
                     self.faults = self.faults.saturating_add(1);
                 }
-                _ => break 'tries,
+                Ok(_) | Err(_) => break 'tries,
             }
         }
         self.faults = self.faults.saturating_add(1);

@@ -6,7 +6,7 @@ use std::fs;
 use std::test::Fail;
 
 #[test]
-fn memory_comes_in_pieces_and_fails_where_it_is_told(rt: HostRuntime) -> Result<(), Fail> {
+fn memory_comes_in_pieces_and_fails_at_listed_calls(rt: HostRuntime) -> Result<(), Fail> {
     let alloc = rt.alloc();
     let mut source = MemSource::new(b"abcde".to_vec(alloc)?, 2, vec![in alloc; 1]?);
     let mut piece = [0; 4];
@@ -55,7 +55,7 @@ fn files_in_memory_are_read_by_name(rt: HostRuntime) -> Result<(), Fail> {
 }
 
 #[test]
-fn the_real_things_pass_bytes_and_faults_on(rt: HostRuntime) -> Result<(), Fail> {
+fn the_real_versions_pass_bytes_and_faults_on(rt: HostRuntime) -> Result<(), Fail> {
     let alloc = rt.alloc();
     let mut source = StdSource::new(b"abc".as_slice());
     let mut piece = [0; 8];

@@ -10,16 +10,16 @@ use Rattle.reservations.specs.Reservations.{is_for, without_earliest}
 use Rattle.reservations.specs.Marks.{unmarked}
 use Rattle.reservations.proofs.Unmarked.{unmarked_none, unmarked_more, unmarked_rest, unmarked_set}
 
-abbrev pub behind : List Reservation → Option (List Reservation) → Option (List Reservation)
-behind front found = option_map (λ rest. front ++ rest) found
+abbrev pub with_front : List Reservation → Option (List Reservation) → Option (List Reservation)
+with_front front found = option_map (λ rest. front ++ rest) found
 
--- what the search finds behind the first i
+-- what the search finds after the first i
 abbrev pub found_from : Held → List Reservation → List Bool → ℕ → Option (List Reservation)
-found_from item list marks i = behind (unmarked (take i list) (take i marks)) (without_earliest item (unmarked (drop i list) (drop i marks)))
+found_from item list marks i = with_front (unmarked (take i list) (take i marks)) (without_earliest item (unmarked (drop i list) (drop i marks)))
 
-behind_one : (front : List Reservation) (r : Reservation) (found : Option (List Reservation)) → behind front (option_map (λ rest. r ∷ rest) found) ≡ behind (front ++ r ∷ []) found
-behind_one front r None = refl
-behind_one front r (Some rest) = ap Some (sym (append_assoc front (r ∷ []) rest))
+with_front_one : (front : List Reservation) (r : Reservation) (found : Option (List Reservation)) → with_front front (option_map (λ rest. r ∷ rest) found) ≡ with_front (front ++ r ∷ []) found
+with_front_one front r None = refl
+with_front_one front r (Some rest) = ap Some (sym (append_assoc front (r ∷ []) rest))
 
 without_other : (item : Held) (r : Reservation) (rs : List Reservation) → is_for item r ≡ false → without_earliest item (r ∷ rs) ≡ option_map (λ rest. r ∷ rest) (without_earliest item rs)
 unfolding without_earliest
@@ -34,9 +34,9 @@ unfolding without_earliest
 without_none item = refl
 
 passed : (item : Held) (r : Reservation) (m : Bool) (front rest : List Reservation) → (not m && is_for item r) ≡ false
-    → behind front (without_earliest item (cond m rest (r ∷ rest))) ≡ behind (front ++ cond m [] (r ∷ [])) (without_earliest item rest)
-passed item r true front rest other = ap (λ l. behind l (without_earliest item rest)) (sym (append-nil front))
-passed item r false front rest other = ap (behind front) (without_other item r rest other) ∙ behind_one front r (without_earliest item rest)
+    → with_front front (without_earliest item (cond m rest (r ∷ rest))) ≡ with_front (front ++ cond m [] (r ∷ [])) (without_earliest item rest)
+passed item r true front rest other = ap (λ l. with_front l (without_earliest item rest)) (sym (append-nil front))
+passed item r false front rest other = ap (with_front front) (without_other item r rest other) ∙ with_front_one front r (without_earliest item rest)
 
 -- a place that isn't left for the item
 pub pass : (item : Held) (list : List Reservation) (marks : List Bool) (i : ℕ) (r : Reservation) (m : Bool)
@@ -45,9 +45,9 @@ pub pass : (item : Held) (list : List Reservation) (marks : List Bool) (i : ℕ)
 pass item list marks i r m within same reads marked other =
     let rest = unmarked_rest list marks i r m within same reads marked in
     let more = unmarked_more list marks i r m within same reads marked in
-    ap (λ l. behind (unmarked (take i list) (take i marks)) (without_earliest item l)) rest
+    ap (λ l. with_front (unmarked (take i list) (take i marks)) (without_earliest item l)) rest
     ∙ passed item r m (unmarked (take i list) (take i marks)) (unmarked (drop (i + 1) list) (drop (i + 1) marks)) other
-    ∙ ap (λ l. behind l (without_earliest item (unmarked (drop (i + 1) list) (drop (i + 1) marks)))) (sym more)
+    ∙ ap (λ l. with_front l (without_earliest item (unmarked (drop (i + 1) list) (drop (i + 1) marks)))) (sym more)
 
 left_free : (a b : Bool) → (not a && b) ≡ true → (a ≡ false) × (b ≡ true)
 left_free true b e = cc
@@ -62,51 +62,51 @@ find item list marks i r m within same reads marked this =
     let front = unmarked (take i list) (take i marks) in
     let later = unmarked (drop (i + 1) list) (drop (i + 1) marks) in
     let rest = unmarked_rest list marks i r m within same reads marked ∙ ap (λ b. cond b later (r ∷ later)) both.0 in
-    ap (λ l. behind front (without_earliest item l)) rest ∙ ap (behind front) (without_this item r later both.1)
+    ap (λ l. with_front front (without_earliest item l)) rest ∙ ap (with_front front) (without_this item r later both.1)
     ∙ ap Some (sym (unmarked_set list marks i r m within same))
 
 -- at the start, and at the end
 pub find_start : (item : Held) (list : List Reservation) (marks : List Bool) → without_earliest item (unmarked list marks) ≡ found_from item list marks 0
-find_start item list marks = at (without_earliest item (unmarked list marks)) ∙ ap (λ l. behind l (without_earliest item (unmarked list marks))) (sym (unmarked_none []))
+find_start item list marks = at (without_earliest item (unmarked list marks)) ∙ ap (λ l. with_front l (without_earliest item (unmarked list marks))) (sym (unmarked_none []))
   where
-    at : (found : Option (List Reservation)) → found ≡ behind [] found
+    at : (found : Option (List Reservation)) → found ≡ with_front [] found
     at None = refl
     at (Some rest) = refl
 
 pub find_end : (item : Held) (list : List Reservation) (marks : List Bool) (i : ℕ) → length list ≤ i → found_from item list marks i ≡ None
 find_end item list marks i past =
-    ap (λ l. behind (unmarked (take i list) (take i marks)) (without_earliest item (unmarked l (drop i marks)))) (drop_all i list past)
-    ∙ ap (λ l. behind (unmarked (take i list) (take i marks)) (without_earliest item l)) (unmarked_none (drop i marks))
-    ∙ ap (behind (unmarked (take i list) (take i marks))) (without_none item)
+    ap (λ l. with_front (unmarked (take i list) (take i marks)) (without_earliest item (unmarked l (drop i marks)))) (drop_all i list past)
+    ∙ ap (λ l. with_front (unmarked (take i list) (take i marks)) (without_earliest item l)) (unmarked_none (drop i marks))
+    ∙ ap (with_front (unmarked (take i list) (take i marks))) (without_none item)
 
 -- ---- the same in a list without marks
 
-abbrev pub found_behind : Held → List Reservation → ℕ → Option (List Reservation)
-found_behind item list i = behind (take i list) (without_earliest item (drop i list))
+abbrev pub found_after : Held → List Reservation → ℕ → Option (List Reservation)
+found_after item list i = with_front (take i list) (without_earliest item (drop i list))
 
-behind_none : (found : Option (List Reservation)) → found ≡ behind [] found
-behind_none None = refl
-behind_none (Some rest) = refl
+with_front_none : (found : Option (List Reservation)) → found ≡ with_front [] found
+with_front_none None = refl
+with_front_none (Some rest) = refl
 
-pub start_one : (item : Held) (list : List Reservation) → without_earliest item list ≡ found_behind item list 0
-start_one item list = behind_none (without_earliest item list)
+pub start_one : (item : Held) (list : List Reservation) → without_earliest item list ≡ found_after item list 0
+start_one item list = with_front_none (without_earliest item list)
 
 rest_at : (list : List Reservation) (i : ℕ) (r : Reservation) → i < length list → r ≡ get_or list i r → drop i list ≡ r ∷ drop (i + 1) list
 rest_at list i r within reads = drop_more list i r within ∙ ap (λ x. x ∷ drop (i + 1) list) (sym reads)
 
 pub pass_one : (item : Held) (list : List Reservation) (i : ℕ) (r : Reservation) → i < length list → r ≡ get_or list i r → is_for item r ≡ false
-    → found_behind item list i ≡ found_behind item list (i + 1)
+    → found_after item list i ≡ found_after item list (i + 1)
 pass_one item list i r within reads other =
     let later = without_earliest item (drop (i + 1) list) in
-    ap (λ l. behind (take i list) (without_earliest item l)) (rest_at list i r within reads) ∙ ap (behind (take i list)) (without_other item r (drop (i + 1) list) other)
-    ∙ behind_one (take i list) r later ∙ ap (λ l. behind l later) (ap (λ x. take i list ++ x ∷ []) reads ∙ sym (take_more list i r within))
+    ap (λ l. with_front (take i list) (without_earliest item l)) (rest_at list i r within reads) ∙ ap (with_front (take i list)) (without_other item r (drop (i + 1) list) other)
+    ∙ with_front_one (take i list) r later ∙ ap (λ l. with_front l later) (ap (λ x. take i list ++ x ∷ []) reads ∙ sym (take_more list i r within))
 
 pub find_one : (item : Held) (list : List Reservation) (i : ℕ) (r : Reservation) → i < length list → r ≡ get_or list i r → is_for item r ≡ true
-    → found_behind item list i ≡ Some (remove list i)
+    → found_after item list i ≡ Some (remove list i)
 find_one item list i r within reads this =
     let next : i + 1 ≡ suc i = omega arith in
-    ap (λ l. behind (take i list) (without_earliest item l)) (rest_at list i r within reads) ∙ ap (behind (take i list)) (without_this item r (drop (i + 1) list) this)
+    ap (λ l. with_front (take i list) (without_earliest item l)) (rest_at list i r within reads) ∙ ap (with_front (take i list)) (without_this item r (drop (i + 1) list) this)
     ∙ ap (λ n. Some (take i list ++ drop n list)) next
 
-pub end_one : (item : Held) (list : List Reservation) (i : ℕ) → length list ≤ i → found_behind item list i ≡ None
-end_one item list i past = ap (λ l. behind (take i list) (without_earliest item l)) (drop_all i list past) ∙ ap (behind (take i list)) (without_none item)
+pub end_one : (item : Held) (list : List Reservation) (i : ℕ) → length list ≤ i → found_after item list i ≡ None
+end_one item list i past = ap (λ l. with_front (take i list) (without_earliest item l)) (drop_all i list past) ∙ ap (with_front (take i list)) (without_none item)

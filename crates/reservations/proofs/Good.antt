@@ -1,4 +1,4 @@
--- What is reserved is good where its items are.
+-- The reservations of good items are good.
 use Rattle.std.proofs.Common.{◌≡◌, ◌≤◌, ◌+◌, ℕ, List, ◌++◌, length, map, take, replicate, Bool, false, ap, sym, ◌∙◌, arith}
 use Rattle.std.specs.Prelude.{All}
 use Rattle.std.proofs.lemmas.List.{length-append, replicate-append-replicate, take-replicate}

@@ -1,4 +1,4 @@
--- Reservations that stay are moved to the front, in place.
+-- Reservations that remain are moved to the front, in place.
 use Rattle.std.specs.Prelude.{IfSome, slice_get, slice_set}
 use Rattle.std.proofs.lemmas.Option.{slice_get_cases}
 use Rattle.std.proofs.Common.{◌≡◌, ◌<◌, ◌≤◌, ◌+◌, ◌⊎◌, inl, inr, Some, None, ℕ, List, [], ◌∷◌, ◌++◌, length, take, drop, Bool, true, false, cond, refl, ap, sym, ◌∙◌, subst, arith}
@@ -8,11 +8,11 @@ use Rattle.plan_base.specs.declared.held.Reservation.{Reservation}
 use Rattle.reservations.specs.Marks.{unmarked}
 use Rattle.reservations.proofs.Unmarked.{unmarked_more}
 
--- of the first i those that are not marked stand in front, and from i on all is as it was
+-- the first `kept` are the unmarked ones of the first i, and from i on nothing has changed
 pub record KeepsInPlace (old now : List Reservation) (marks : List Bool) (kept i : ℕ) : Type 0 where
   pub front : take kept now ≡ unmarked (take i old) (take i marks)
   pub rest : drop i now ≡ drop i old
-  pub behind : kept ≤ i
+  pub kept_before : kept ≤ i
   pub within : i ≤ length old
   pub long : length now ≡ length old
 
@@ -26,29 +26,29 @@ module _ {old now : List Reservation} {marks : List Bool} {kept i : ℕ} where
       let was : r ≡ get_or old i r = ap (λ l. get_or l 0 r) (both h below reads) in
       unmarked_more old marks i r m (omega (arith, h.long)) same was marked ∙ ap (λ l. l ++ cond m [] (r ∷ [])) (sym h.front)
 
-  -- a marked one is passed over
+  -- a marked one is skipped
   pub keeps_drop : {r : Reservation} {m : Bool} → KeepsInPlace old now marks kept i → length marks ≡ length old → i < length now → r ≡ get_or now i r → m ≡ get_or marks i false
       → m ≡ true → KeepsInPlace old now marks kept (i + 1)
   keeps_drop {r} {m} h same below reads marked gone = record {
     front = sym (more h same below reads marked ∙ ap (λ b. take kept now ++ cond b [] (r ∷ [])) gone ∙ append-nil (take kept now));
     rest = ap (drop 1) (both h below reads);
-    behind = omega (arith, h.behind);
+    kept_before = omega (arith, h.kept_before);
     within = omega (arith, h.long);
     long = h.long;
   }
 
-  -- another is moved to the front
+  -- an unmarked one is moved to the front
   pub keeps_move : {r : Reservation} {m : Bool} → KeepsInPlace old now marks kept i → length marks ≡ length old → i < length now → r ≡ get_or now i r → m ≡ get_or marks i false
       → m ≡ false → KeepsInPlace old (set now kept r) marks (kept + 1) (i + 1)
   keeps_move {r} {m} h same below reads marked stays = record {
-    front = take_more_set now kept r (omega (arith, h.behind)) ∙ sym (more h same below reads marked ∙ ap (λ b. take kept now ++ cond b [] (r ∷ [])) stays);
-    rest = drop-set-lt (i + 1) now kept r (omega (arith, h.behind)) ∙ ap (drop 1) (both h below reads);
-    behind = omega (arith, h.behind);
+    front = take_more_set now kept r (omega (arith, h.kept_before)) ∙ sym (more h same below reads marked ∙ ap (λ b. take kept now ++ cond b [] (r ∷ [])) stays);
+    rest = drop-set-lt (i + 1) now kept r (omega (arith, h.kept_before)) ∙ ap (drop 1) (both h below reads);
+    kept_before = omega (arith, h.kept_before);
     within = omega (arith, h.long);
     long = length-set now kept r ∙ h.long;
   }
 
-  -- the same by what a call says, whatever stands at the place
+  -- the same from the clause of a call
   pub keeps_dropped : KeepsInPlace old now marks kept i → length marks ≡ length old → i < length now → get_or marks i false ≡ true → KeepsInPlace old now marks kept (i + 1)
   keeps_dropped h same below gone = at (slice_get_cases now i).1
     where
@@ -67,7 +67,7 @@ module _ {old now : List Reservation} {marks : List Bool} {kept i : ℕ} where
   pub keeps_all : KeepsInPlace old now marks kept i → length marks ≡ length old → length old ≤ i → take kept now ≡ unmarked old marks
   keeps_all h same past = h.front ∙ (λ t. unmarked (take_all i old past t) (take_all i marks (omega (arith, same, past)) t))
 
--- a reservation that stays at its place
+-- a reservation that keeps its position
 pub stays_put : (list : List Reservation) (from to : ℕ) → to ≡ from → IfSome (slice_get list from) (λ r. list ≡ slice_set list to r)
 stays_put list from to same = at (slice_get_cases list from).1
   where

@@ -1,4 +1,4 @@
--- Item after item, set free.
+-- Items that are set free, one after another.
 use Rattle.std.proofs.Common.{◌≡◌, ◌<◌, ◌≤◌, ◌+◌, ℕ, List, [], ◌∷◌, length, drop, Some, None, Option, Ok, Err, refl, ap, sym, ◌∙◌}
 use Rattle.std.specs.Prelude.{option_map}
 use lib.ListN.{get_or}
@@ -23,12 +23,12 @@ first_at path item i list found within reads is =
     let rest : drop i path ≡ item ∷ drop (i + 1) path = drop_more path i item within ∙ ap (λ x. x ∷ drop (i + 1) path) (sym reads) in
     ap (λ p. set_free p i list) rest ∙ set_free_first item (drop (i + 1) path) i list ∙ ap (λ o. left_or i (option_map (set_free (drop (i + 1) path) (i + 1)) o)) is
 
--- the item at a place finds one
+-- the item at index i has a match
 pub goes_on : (path : List Held) (item : Held) (i : ℕ) (list left : List Reservation) → i < length path → item ≡ get_or path i item
     → without_earliest item list ≡ Some left → set_free (drop i path) i list ≡ set_free (drop (i + 1) path) (i + 1) left
 goes_on path item i list left within reads is = first_at path item i list (Some left) within reads is
 
--- or finds none
+-- the item at index i has no match
 pub stops : (path : List Held) (item : Held) (i : ℕ) (list : List Reservation) → i < length path → item ≡ get_or path i item
     → without_earliest item list ≡ None → set_free (drop i path) i list ≡ Err i
 stops path item i list within reads is = first_at path item i list None within reads is
@@ -36,7 +36,7 @@ stops path item i list within reads is = first_at path item i list None within r
 pub all_free : (path : List Held) (i : ℕ) (list : List Reservation) → length path ≤ i → set_free (drop i path) i list ≡ Ok list
 all_free path i list past = ap (λ p. set_free p i list) (drop_all i path past) ∙ set_free_none i list
 
--- one item alone
+-- a single item
 pub one_free : (item : Held) (list left : List Reservation) → without_earliest item list ≡ Some left → set_free (item ∷ []) 0 list ≡ Ok left
 one_free item list left is = set_free_first item [] 0 list ∙ ap (λ o. left_or 0 (option_map (set_free [] 1) o)) is ∙ set_free_none 1 left
 

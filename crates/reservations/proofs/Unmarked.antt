@@ -1,4 +1,4 @@
--- Lists of reservations with a mark for each, gone through from the front.
+-- Lists of reservations with a mark for each.
 use Rattle.std.proofs.Common.{◌≡◌, ◌<◌, ◌+◌, ℕ, List, [], ◌∷◌, ◌++◌, length, take, drop, suc, replicate, Bool, true, false, cond, refl, ap, sym, ◌∙◌, arith}
 use Rattle.std.specs.Prelude.{All}
 use lib.ListN.{get_or, set}
@@ -16,7 +16,7 @@ unmarked_unknown : (r : Reservation) (rs : List Reservation) → unmarked (r ∷
 unfolding unmarked
 unmarked_unknown r rs = refl
 
--- one more in front
+-- one more at the front
 pub unmarked_first : (r : Reservation) (rs : List Reservation) (m : Bool) (ms : List Bool) → unmarked (r ∷ rs) (m ∷ ms) ≡ cond m (unmarked rs ms) (r ∷ unmarked rs ms)
 unfolding unmarked
 unmarked_first r rs m ms = refl

@@ -1,4 +1,4 @@
--- What is reserved on a direction.
+-- The amount that is reserved on a direction.
 use Rattle.std.specs.Prelude.{ℕ, List, if◌then◌else◌}
 use Rattle.std.specs.List.{sum_by}
 use Rattle.plan_base.specs.Dir.{Direction, same_dir}

@@ -6,14 +6,14 @@ ghost use Rattle.reservations.specs.Marks.{unmarked};
 use crate::NotReserved;
 use plan_base::{Held, Reservation};
 
-// Whether a reservation with this mark is left for an item.
+// Whether a reservation with this mark matches the item, and no earlier item has taken it.
 fn is_left_for(item: &Held, reservation: &Reservation, mark: bool) -> bool
     ensures { result ≡ (not mark && is_for item.now reservation.now) }
 {
     reservation.amount == item.amount && !mark && reservation.dir == item.dir
 }
 
-// Marks the earliest reservation of an item that isn't marked, if there is one.
+// Marks the earliest unmarked reservation of an item, if one exists.
 fn mark_earliest(list: &[Reservation], marks: &mut [bool], item: &Held) -> bool
     requires { length marks.old ≡ length list.now }
     ensures marked { without_earliest item.now (unmarked list.now marks.old)
@@ -29,7 +29,7 @@ fn mark_earliest(list: &[Reservation], marks: &mut [bool], item: &Held) -> bool
     false
 }
 
-/// Marks for each item the earliest reservation that isn't marked, up to the first item that finds none.
+/// Marks for each item the earliest unmarked reservation, up to the first item without one.
 pub fn mark_all(list: &[Reservation], marks: &mut [bool], path: &[Held]) -> Result<(), NotReserved>
     requires { length marks.old ≡ length list.now }
     ensures ok { OnOk result (set_free path.now 0 (unmarked list.now marks.old) ≡ Ok (unmarked list.now marks.new)) }
@@ -44,7 +44,7 @@ pub fn mark_all(list: &[Reservation], marks: &mut [bool], path: &[Held]) -> Resu
     Ok(())
 }
 
-/// Drops the reservations that are marked. The others keep their order.
+/// Removes the marked reservations. The others keep their order.
 #[tactic(auto, using(crate::proofs::Unmarked::unmarked_good))]
 pub fn drop_marked(list: &mut Vec<Reservation>, marks: &[bool])
     requires { length marks.now ≡ length list.old.items }
@@ -62,7 +62,7 @@ pub fn drop_marked(list: &mut Vec<Reservation>, marks: &[bool])
     list.truncate(kept);
 }
 
-// Moves a reservation to an earlier place, or leaves it at its own.
+// Copies a reservation to an earlier position, or leaves it where it is.
 fn move_down(list: &mut Vec<Reservation>, from: usize, to: usize)
     requires within { from < length list.old.items }
     requires down { to ≤ from }
@@ -74,7 +74,7 @@ fn move_down(list: &mut Vec<Reservation>, from: usize, to: usize)
     }
 }
 
-/// Leaves so many marks, none of which is set.
+/// Leaves `count` marks, none of them set.
 pub fn clear(marks: &mut Vec<bool>, count: usize)
     requires { count ≤ length marks.old.items }
     ensures { marks.new.items ≡ replicate count false }

@@ -1,4 +1,4 @@
-//! Amounts that are set aside on directions, so that nobody counts twice on the same liquidity.
+//! Reservations: amounts that callers set aside on directions, so that two payments do not rely on the same liquidity.
 #![tactic(auto)]
 
 mod free;

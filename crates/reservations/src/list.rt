@@ -1,6 +1,6 @@
 ghost use Rattle.std.specs.Prelude.{◌≡◌, ◌+◌, ◌≤◌, [], ◌∷◌, ◌++◌, length, replicate, All, Ok, Err, IfErr, OnOk, OnErr, false, vec_len, vec_capacity};
 ghost use Rattle.plan_base.specs.Held.{IsGoodHeld};
-ghost use Rattle.reservations.specs.Reservations.{with_reserved, refusal_of_reserve, IsGoodList, IsRefusedFor, set_free};
+ghost use Rattle.reservations.specs.Reservations.{with_reserved, refusal_of_reserve, IsGoodList, IsReserveRefusal, set_free};
 
 use crate::free::{clear, drop_marked, mark_all};
 use crate::one::free_one;
@@ -9,14 +9,14 @@ use plan_base::{Held, NoMemory, Reservation};
 use std::alloc::Global;
 use std::marker::Model;
 
-/// The most reservations that there are at once.
+/// The greatest number of reservations.
 pub const RESERVATIONS_MAX: usize = 65_536;
 
-/// The reservations, in order of making. Contracts see their list.
+/// The reservations, in the order in which they were made. Contracts see them as a list.
 #[derive(Debug, Drop)]
 pub struct Reservations {
     list: Vec<Reservation>,
-    // One mark for each reservation, so that a reservation is set free without memory. Between calls none is set.
+    // One mark for each reservation, so that `unreserve` needs no memory. Between calls no mark is set.
     marks: Vec<bool>,
 }
 
@@ -33,9 +33,10 @@ impl Model for Reservations {
 }
 
 impl Reservations {
-    /// No reservations. No memory is taken.
+    /// No reservations. Allocates nothing.
     pub fn new(alloc: Global) -> Reservations
-        ensures { result ≡ [] }
+        ensures empty { result ≡ [] }
+        ensures limit { RESERVATIONS_MAX ≡ 65536 }
     {
         Reservations {
             list: Vec::new(alloc),
@@ -43,7 +44,7 @@ impl Reservations {
         }
     }
 
-    /// All reservations, in order of making.
+    /// All reservations, in the order in which they were made.
     pub fn list(&self) -> &[Reservation]
         ensures list { result.now ≡ self.now }
         ensures good { IsGoodList self.now }
@@ -51,13 +52,13 @@ impl Reservations {
         self.list.as_slice()
     }
 
-    /// Reserves each item, in order, for a caller at a moment in seconds; all of them or, where there would be too many or
-    /// memory is wanting, none.
+    /// Appends a reservation for each item, in order, for a caller at a time in Unix seconds. Reserves nothing if the limit
+    /// would be exceeded, or when out of memory.
     pub fn reserve(&mut self, path: &[Held], now: u64, caller: u32) -> Result<(), ReserveRefusal>
         requires { All IsGoodHeld path.now }
         ensures ok { OnOk result (self.new ≡ with_reserved self.old path.now now caller) }
         ensures err { OnErr result (self.new ≡ self.old) }
-        ensures refusal { IsRefusedFor (refusal_of_reserve self.old path.now) result }
+        ensures refusal { IsReserveRefusal (refusal_of_reserve self.old path.now) result }
     {
         let length = self.list.len();
         if path.len() > RESERVATIONS_MAX - length {
@@ -67,8 +68,9 @@ impl Reservations {
         Ok(())
     }
 
-    /// Sets each item free, in order: the earliest reservation of its direction and amount that no earlier item took goes,
-    /// whoever made it. The first item that finds none is refused, and then none goes. No memory is taken.
+    /// Removes a reservation for each item: the earliest one of its direction and amount that no earlier item has taken,
+    /// whoever made it. If an item has no such reservation, refuses the first such item and removes nothing. Allocates
+    /// nothing.
     pub fn unreserve(&mut self, path: &[Held]) -> Result<(), NotReserved>
         ensures ok { OnOk result (set_free path.now 0 self.old ≡ Ok self.new) }
         ensures err { OnErr result (self.new ≡ self.old) }
@@ -90,7 +92,7 @@ impl Reservations {
         }
     }
 
-    // One item needs no marks: its reservation can go at once.
+    // A single item needs no marks: its reservation can be removed at once.
     fn unreserve_one(&mut self, item: &Held) -> Result<(), NotReserved>
         ensures ok { OnOk result (set_free (item.now ∷ []) 0 self.old ≡ Ok self.new) }
         ensures err { OnErr result (self.new ≡ self.old) }
@@ -104,7 +106,7 @@ impl Reservations {
     }
 }
 
-// Adds a reservation for each item, and its mark. An `Err` leaves both lists as they were.
+// Appends a reservation and a mark for each item. An `Err` leaves both lists unchanged.
 fn append(
     list: &mut Vec<Reservation>,
     marks: &mut Vec<bool>,
@@ -120,12 +122,12 @@ fn append(
 {
     list.reserve(path.len())?;
     marks.resize(marks.len() + path.len(), false)?;
-    for_each_item(list, path, now, caller);
+    push_reservations(list, path, now, caller);
     Ok(())
 }
 
-// Adds a reservation for each item, for which there is room.
-fn for_each_item(list: &mut Vec<Reservation>, path: &[Held], now: u64, caller: u32)
+// Appends a reservation for each item. The list must have room for them.
+fn push_reservations(list: &mut Vec<Reservation>, path: &[Held], now: u64, caller: u32)
     requires room { vec_len list.old + length path.now ≤ vec_capacity list.old }
     ensures { list.new.items ≡ with_reserved list.old.items path.now now caller }
 {

@@ -5,7 +5,7 @@ ghost use Rattle.reservations.specs.Reservations.{is_for, without_earliest};
 
 use plan_base::{Held, Reservation};
 
-/// Drops the earliest reservation of an item, if there is one. The others keep their order.
+/// Removes the earliest reservation of an item, if one exists. The others keep their order.
 pub fn free_one(list: &mut Vec<Reservation>, item: &Held) -> bool
     ensures freed { without_earliest item.now list.old.items ≡ (if result then Some list.new.items else None) }
     ensures kept { result ≡ false → list.new.items ≡ list.old.items }
@@ -21,7 +21,7 @@ pub fn free_one(list: &mut Vec<Reservation>, item: &Held) -> bool
     }
 }
 
-// The place of the earliest reservation of an item.
+// The position of the earliest reservation of an item.
 fn earliest(list: &[Reservation], item: &Held) -> Option<usize>
     ensures place { without_earliest item.now list.now ≡ option_map (remove list.now) result }
     ensures within { IfSome result (λ place. place < length list.now) }

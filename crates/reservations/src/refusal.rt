@@ -8,12 +8,12 @@ use std::fmt;
 /// Why nothing was reserved.
 #[derive(Clone, Copy, Debug, PartialEq, Eq)]
 pub enum ReserveRefusal {
-    /// There would be more reservations than there may be.
+    /// The limit would be exceeded.
     Full {
-        /// How many stand.
+        /// How many reservations are held.
         length: usize,
     },
-    /// The allocator had no memory.
+    /// Out of memory.
     NoMemory,
 }
 
@@ -38,7 +38,7 @@ impl From<NoMemory> for ReserveRefusal {
     }
 }
 
-/// An item finds no reservation that no earlier item took.
+/// An item has no matching reservation that no earlier item has taken.
 #[derive(Clone, Copy, Debug, PartialEq, Eq)]
 pub struct NotReserved {
     /// The first such item, from 0.

@@ -3,7 +3,7 @@ ghost use Rattle.reservations.specs.Reserved.{amount_on, reserved_on};
 
 use plan_base::{Dir, Reservation};
 
-/// What is reserved on a direction, in msat. No memory is taken.
+/// The amount that is reserved on a direction, in msat. Allocates nothing.
 pub fn reserved(list: &[Reservation], dir: &Dir) -> u128
     ensures { result ≡ reserved_on dir.now list.now }
 {

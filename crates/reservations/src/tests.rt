@@ -14,7 +14,7 @@ fn item(dir: &str, amount: u64) -> Option<Held>
     Some(Held { dir, amount })
 }
 
-// At the moments 1, 2 and 3 by the callers 0, 1 and 2; the first and the last are equal but for that.
+// Made at the moments 1, 2 and 3 by the callers 0, 1 and 2. The first and the last have the same direction and amount.
 fn three(alloc: Global) -> Option<Reservations> {
     let mut reservations = Reservations::new(alloc);
     reservations.reserve(&[item("100x1x0/0", 5)?], 1, 0).ok()?;
@@ -23,8 +23,8 @@ fn three(alloc: Global) -> Option<Reservations> {
     Some(reservations)
 }
 
-// Whether those stand that were made at these moments by the callers before them.
-fn stand(reservations: &Reservations, moments: &[u64]) -> bool {
+// Whether exactly the reservations of these moments are held; the one of moment n was made by caller n - 1.
+fn are_held(reservations: &Reservations, moments: &[u64]) -> bool {
     let list = reservations.list();
     list.len() == moments.len()
         && list.iter().zip(moments).all(|(reservation, moment)| {
@@ -35,9 +35,9 @@ fn stand(reservations: &Reservations, moments: &[u64]) -> bool {
 fn the_earliest_goes(alloc: Global) -> Option<bool> {
     let mut reservations = three(alloc)?;
     let first = reservations.unreserve(&[item("100x1x0/0", 5)?]);
-    let one = stand(&reservations, &[2, 3]);
+    let one = are_held(&reservations, &[2, 3]);
     let rest = reservations.unreserve(&[item("100x1x0/0", 5)?, item("100x1x0/1", 5)?]);
-    Some(first.is_ok() && one && rest.is_ok() && stand(&reservations, &[]))
+    Some(first.is_ok() && one && rest.is_ok() && are_held(&reservations, &[]))
 }
 
 fn all_or_none(alloc: Global) -> Option<bool> {
@@ -48,7 +48,7 @@ fn all_or_none(alloc: Global) -> Option<bool> {
     Some(
         third == Err(NotReserved { index: 2 })
             && other == Err(NotReserved { index: 0 })
-            && stand(&reservations, &[1, 2, 3]),
+            && are_held(&reservations, &[1, 2, 3]),
     )
 }
 
@@ -57,7 +57,7 @@ fn one_item_twice(alloc: Global) -> Option<bool> {
     let this = item("100x1x0/0", 5)?;
     reservations.reserve(&[this], 1, 0).ok()?;
     let twice = reservations.unreserve(&[this, this]);
-    Some(twice == Err(NotReserved { index: 1 }) && stand(&reservations, &[1]))
+    Some(twice == Err(NotReserved { index: 1 }) && are_held(&reservations, &[1]))
 }
 
 #[test]

@@ -11,7 +11,7 @@ use Rattle.serde_json.specs.Read.{read}
 use Rattle.serde_json.specs.View.{view, members_view}
 use Rattle.serde_json.specs.declared.value.Value.{Value, Object}
 use Rattle.serde_json.proofs.Views.{view-lookup, view-Object}
-use Rattle.rpc_lines.specs.Request.{value_of, asked_in, request_of}
+use Rattle.rpc_lines.specs.Request.{value_of, request_in, request_of}
 
 pub value_of_read : (line : List ℕ) (value : Data) → IsUtf8 line → read line ≡ Some value → value_of line ≡ Some value
 unfolding value_of
@@ -37,6 +37,6 @@ other_member name m n w other updates apart =
     sym (view-lookup other n.entries) ∙ ap (option_map view) same ∙ view-lookup other m.entries
 
 -- a line that an object is read from
-pub request_of_object : (line : List ℕ) (m : BTreeMap (String Global) Value) → Some (view (Object m)) ≡ value_of line → request_of line ≡ asked_in (members_view m.entries)
+pub request_of_object : (line : List ℕ) (m : BTreeMap (String Global) Value) → Some (view (Object m)) ≡ value_of line → request_of line ≡ request_in (members_view m.entries)
 unfolding request_of
 request_of_object line m is = rw (← is, view-Object m)

@@ -1,11 +1,11 @@
--- Where each fault of reading a request comes.
+-- What each fault of `read_request` says of the line.
 use Rattle.std.specs.Prelude.{◌≡◌}
 use Rattle.rpc_lines.specs.declared.request.RpcFault.{RpcFault}
 use Rattle.rpc_lines.specs.declared.request.RpcFault.TheVariants.{NotJson, NotRequest, NoMemory}
-use Rattle.rpc_lines.specs.Request.{Asked, not_json, not_request}
+use Rattle.rpc_lines.specs.Request.{LineReading, not_json, not_request}
 
--- Want of memory is free.
-abbrev pub IsFaultOf : RpcFault → Asked → Type 0
-IsFaultOf NotJson asked = asked ≡ not_json
-IsFaultOf (NotRequest id) asked = asked ≡ not_request id
-IsFaultOf NoMemory asked = Unit {0}
+-- `NoMemory` may come for any line.
+abbrev pub IsRequestFault : RpcFault → LineReading → Type 0
+IsRequestFault NotJson reading = reading ≡ not_json
+IsRequestFault (NotRequest id) reading = reading ≡ not_request id
+IsRequestFault NoMemory reading = Unit {0}

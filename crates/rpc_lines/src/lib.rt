@@ -1,5 +1,4 @@
-//! Requests and replies of JSON-RPC 2.0, one to a line: from a line's bytes to a request, and from a reply to the bytes
-//! of its line.
+//! Reads requests and writes replies of JSON-RPC 2.0, one per line.
 #![tactic(auto)]
 
 mod read;

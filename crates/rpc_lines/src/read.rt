@@ -1,8 +1,8 @@
 ghost use Rattle.std.specs.Prelude.{◌≡◌, List, ℕ, IfOk, IfErr, None, false, bytes_eq, option_map, option_and_then};
 ghost use Rattle.serde_json.specs.Find.{get_member, as_str};
 ghost use Rattle.serde_json.specs.View.{view, members_view};
-ghost use Rattle.rpc_lines.specs.Request.{value_of, id_of, params_of, asked_in, request_of, asks};
-ghost use Rattle.rpc_lines.specs.Fault.{IsFaultOf};
+ghost use Rattle.rpc_lines.specs.Request.{value_of, id_of, params_of, request_in, request_of, request};
+ghost use Rattle.rpc_lines.specs.Fault.{IsRequestFault};
 
 use crate::request::{Id, Request, RpcFault};
 use plan_base::{NoMemory, Text};
@@ -10,17 +10,16 @@ use serde_json::{Map, Value};
 use std::alloc::Global;
 use std::mem;
 
-/// Reads the request of one line, without its LF (JSON-RPC 2.0, one request a line). `jsonrpc` and unknown keys are
-/// ignored, and of a key that stands twice the last value counts.
+/// Reads the request of one line, given without its LF (JSON-RPC 2.0, one request per line). `jsonrpc` and unknown keys are
+/// ignored. If a key occurs twice, its last value counts.
 ///
-/// A line is no request exactly where it isn't an object, where `id` is there and is neither a text, nor null, nor a
-/// whole number of 64 bits, where `method` is absent or no text, or where `params` is there and is neither an object,
-/// nor an array, nor null.
+/// A JSON text is a request if and only if it is an object, its `id` is absent or null or a string or an integer that fits
+/// u64 or i64, its `method` is a string, and its `params` is absent or null or an object or an array.
 #[tactic(auto, unfolding(crate::specs::Request::request_of))]
 pub fn read_request(alloc: Global, line: &[u8]) -> Result<Request, RpcFault>
     ensures ok { IfOk result
-        (λ asked. request_of line.now ≡ asks asked.id asked.method (view asked.params)) }
-    ensures err { IfErr result (λ fault. IsFaultOf fault (request_of line.now)) }
+        (λ it. request_of line.now ≡ request it.id it.method (view it.params)) }
+    ensures err { IfErr result (λ fault. IsRequestFault fault (request_of line.now)) }
 {
     match read_value(alloc, line)? {
         None => Err(RpcFault::NotJson),
@@ -42,9 +41,8 @@ fn read_value(alloc: Global, line: &[u8]) -> Result<Option<Value>, NoMemory>
 
 fn request_in(alloc: Global, mut members: Map<String, Value>) -> Result<Request, RpcFault>
     ensures ok { IfOk result
-        (λ asked. asked_in (members_view members.entries)
-        ≡ asks asked.id asked.method (view asked.params)) }
-    ensures err { IfErr result (λ fault. IsFaultOf fault (asked_in (members_view members.entries))) }
+        (λ it. request_in (members_view members.entries) ≡ request it.id it.method (view it.params)) }
+    ensures err { IfErr result (λ fault. IsRequestFault fault (request_in (members_view members.entries))) }
 {
     let Some(id) = id_from(take(&mut members, "id")) else {
         return Err(RpcFault::NotRequest { id: Id::Null });
@@ -58,7 +56,7 @@ fn request_in(alloc: Global, mut members: Map<String, Value>) -> Result<Request,
     Ok(Request { id, method, params })
 }
 
-/// Moves a member's value out of an object, and leaves null in its place; the other members stay.
+/// Moves a member's value out of an object and leaves null in its place. The other members stay.
 #[tactic(auto, using(crate::proofs::Values::taken_member, crate::proofs::Values::other_member))]
 fn take(members: &mut Map<String, Value>, name: &str) -> Option<Value>
     ensures value { option_map view result ≡ get_member name.now (members_view members.old.entries) }

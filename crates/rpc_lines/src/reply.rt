@@ -1,7 +1,8 @@
 ghost use Rattle.std.specs.Prelude.{◌≡◌, ◌++◌, IfOk, false};
 ghost use Rattle.serde_json.specs.View.{view};
 ghost use Rattle.serde_json.specs.Written.{has_float};
-ghost use Rattle.rpc_lines.specs.Reply.{id_data, with_result, with_error, content_of, value_in, place_data, reply_line};
+ghost use Rattle.rpc_lines.specs.Reply.{id_data, with_result, with_error, value_in, place_data, reply_line};
+ghost use Rattle.rpc_lines.specs.Said.{said_content};
 ghost use Rattle.rpc_lines.specs.Tokens.{id_token, result_head, place_tokens, error_head, error_tail};
 ghost use Rattle.json.specs.Print.{print};
 ghost use Rattle.json.specs.Written.{Writes};
@@ -11,20 +12,17 @@ use json::Writer;
 use plan_base::{NoMemory, Text};
 use serde_json::Value;
 use std::alloc::{AllocError, Global};
+use std::marker::Model;
 
-/// The bytes that a line is given at first: most replies fit.
+/// The capacity that a line starts with. Most replies fit.
 const ROOM: usize = 256;
 
-/// What a reply says of its request.
 #[derive(Drop)]
-pub enum Body {
-    /// It was done, with this result.
+enum Said {
     Result(Value),
-    /// It was done, and the result tells the place of its entry alone, under the key `at`.
     Place {
         at: u64,
     },
-    /// It was refused. `detail` is printed under the key `data`.
     Error {
         code: i32,
         message: Text,
@@ -32,22 +30,66 @@ pub enum Body {
     },
 }
 
+/// The content of a reply: a result or an error. It contains no floating-point number.
+#[derive(Drop)]
+pub struct Body {
+    said: Said,
+}
+
+impl Model for Body {
+    ghost use Rattle.std.specs.Prelude.{◌≡◌, false};
+    ghost use Rattle.serde_json.specs.Written.{has_float};
+    ghost use Rattle.rpc_lines.specs.Reply.{Content, value_in};
+    ghost use Rattle.rpc_lines.specs.Stored.{content_code};
+
+    ghost Value = { Content };
+
+    ghost coded = { content_code };
+
+    ghost use Rattle.rpc_lines.specs.Said.{said_content};
+
+    ghost view = { λ body. said_content body.said };
+
+    ghost invariant = { λ body. has_float (value_in (said_content body.said)) ≡ false };
+}
+
 impl Body {
-    /// An error with a copy of the message.
+    /// The result of a command.
+    pub fn result(value: Value) -> Body
+        requires { has_float (view value) ≡ false }
+        ensures { result ≡ with_result (view value) }
+    {
+        Body {
+            said: Said::Result(value),
+        }
+    }
+
+    /// The result that contains only the position of the command's entry, under the key `at`.
+    pub fn place(at: u64) -> Body
+        ensures { result ≡ with_result (place_data at) }
+    {
+        Body {
+            said: Said::Place { at },
+        }
+    }
+
+    /// An error with a copy of the message; `detail` is written under the key `data`.
     pub fn error(alloc: Global, code: i32, message: &str, detail: Value) -> Result<Body, NoMemory>
-        ensures { IfOk result
-            (λ body. content_of body ≡ with_error code message.now (view detail)) }
+        requires { has_float (view detail) ≡ false }
+        ensures { IfOk result (λ body. body ≡ with_error code message.now (view detail)) }
     {
         let message = Text::from_text(alloc, message)?;
-        Ok(Body::Error {
-            code,
-            message,
-            detail,
+        Ok(Body {
+            said: Said::Error {
+                code,
+                message,
+                detail,
+            },
         })
     }
 }
 
-/// The answer to one request.
+/// The reply to one request.
 #[derive(Drop)]
 pub struct Reply {
     pub id: Id,
@@ -55,21 +97,28 @@ pub struct Reply {
 }
 
 /// The line of a reply, compact and with its LF: `{"id":ID,"jsonrpc":"2.0","result":R}`, or for an error
-/// `{"error":{"code":C,"data":T,"message":M},"id":ID,"jsonrpc":"2.0"}`. The keys of every object ascend by their bytes.
-/// The values of the body hold no floating-point number.
+/// `{"error":{"code":C,"data":D,"message":M},"id":ID,"jsonrpc":"2.0"}`. The keys of every object are in ascending byte
+/// order.
 pub fn write_reply(alloc: Global, reply: &Reply) -> Result<Vec<u8>, NoMemory>
-    requires { has_float (value_in (content_of reply.now.body)) ≡ false }
-    ensures { IfOk result
-        (λ line. line.items ≡ reply_line (id_data reply.now.id) (content_of reply.now.body)) }
+    ensures { IfOk result (λ line. line.items ≡ reply_line (id_data reply.now.id) reply.now.body) }
 {
-    let line = match &reply.body {
-        Body::Result(value) => result_line(alloc, &reply.id, value)?,
-        Body::Place { at } => place_line(alloc, &reply.id, *at)?,
-        Body::Error {
+    let body = &reply.body;
+    let line = body_line(alloc, &reply.id, &body.said)?;
+    Ok(line)
+}
+
+fn body_line(alloc: Global, id: &Id, said: &Said) -> Result<Vec<u8>, NoMemory>
+    requires { has_float (value_in (said_content said.now)) ≡ false }
+    ensures { IfOk result (λ line. line.items ≡ reply_line (id_data id.now) (said_content said.now)) }
+{
+    let line = match said {
+        Said::Result(value) => result_line(alloc, id, value)?,
+        Said::Place { at } => place_line(alloc, id, *at)?,
+        Said::Error {
             code,
             message,
             detail,
-        } => error_line(alloc, &reply.id, *code, message.as_str(), detail)?,
+        } => error_line(alloc, id, *code, message.as_str(), detail)?,
     };
     Ok(line)
 }

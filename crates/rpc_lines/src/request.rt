@@ -6,32 +6,32 @@ use serde_json::Value;
 pub enum Id {
     /// No id, or null.
     Null,
-    /// A whole number that isn't below 0.
+    /// An integer that is not below 0.
     Unsigned(u64),
-    /// A whole number below 0.
+    /// An integer below 0.
     Signed(i64),
-    /// A text.
+    /// A string.
     Text(Text),
 }
 
-/// What a line asks: a method, by its name, with its parameters.
+/// A request: the name of a method, and its parameters.
 #[derive(Drop)]
 pub struct Request {
     pub id: Id,
     pub method: Text,
-    /// An object or an array; an empty object where the line has none.
+    /// An object or an array; an empty object if the line has none.
     pub params: Value,
 }
 
-/// Why a line is no request.
+/// Why a line is not a request.
 #[derive(Debug, Drop)]
 pub enum RpcFault {
-    /// The line is no JSON text (JSON-RPC 2.0: parse error).
+    /// The line is not a JSON text (JSON-RPC 2.0: parse error).
     NotJson,
-    /// The line is read and is no request (JSON-RPC 2.0: invalid request). The id is the line's where it is of a right
-    /// kind, else null.
+    /// The line is a JSON text and not a request (JSON-RPC 2.0: invalid request). The id is the line's own if it is of a
+    /// valid kind, else null.
     NotRequest { id: Id },
-    /// The allocator had no memory.
+    /// Out of memory.
     NoMemory,
 }
 

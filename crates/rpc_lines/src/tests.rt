@@ -1,4 +1,4 @@
-//! What lines ask, and the bytes of replies, one row each.
+//! What lines are read as, and the bytes of replies.
 use crate::{Body, Id, Reply, RpcFault, read_request, write_reply};
 use plan_base::Text;
 use serde_json::{Value, json};
@@ -14,24 +14,24 @@ fn id_shown(alloc: Global, id: &Id) -> Result<String, AllocError> {
     }
 }
 
-fn asked(alloc: Global, line: &[u8]) -> Result<String, AllocError> {
+fn read(alloc: Global, line: &[u8]) -> Result<String, AllocError> {
     match read_request(alloc, line) {
         Ok(request) => {
             let id = id_shown(alloc, &request.id)?;
             let params = request.params.to_string(alloc)?;
             format!(in alloc; "{id}: {} {params}", request.method.as_str())
         }
-        Err(RpcFault::NotJson) => String::from_str(alloc, "no JSON"),
+        Err(RpcFault::NotJson) => String::from_str(alloc, "not JSON"),
         Err(RpcFault::NotRequest { id }) => {
             let id = id_shown(alloc, &id)?;
-            format!(in alloc; "no request, {id}")
+            format!(in alloc; "not a request, {id}")
         }
         Err(RpcFault::NoMemory) => Err(AllocError),
     }
 }
 
 #[test]
-fn a_line_is_a_request_or_has_one_of_the_causes(rt: HostRuntime) -> Result<(), Fail> {
+fn lines_are_read_as(rt: HostRuntime) -> Result<(), Fail> {
     let rows = [
         (
             r#"{"id":1,"method":"m","params":{"b":[1],"a":null}}"#,
@@ -65,125 +65,117 @@ fn a_line_is_a_request_or_has_one_of_the_causes(rt: HostRuntime) -> Result<(), F
             r#"{"method":"m","params":[[[[[[[[[[[[[[[[[[[[[[[[[[[[[[[[[[[[[[[[[[[[[[[[[[[[[[[[[[[[[[[[[[[[[[[[[[[[[[[[[[[[[[[[[[[[[[[[[[[[[[[[[[[[[[[[[[[[[[[[[[[[[[]]]]]]]]]]]]]]]]]]]]]]]]]]]]]]]]]]]]]]]]]]]]]]]]]]]]]]]]]]]]]]]]]]]]]]]]]]]]]]]]]]]]]]]]]]]]]]]]]]]]]]]]]]]]]]]]]]]]]]]]]]]]]]}"#,
             "null: m [[[[[[[[[[[[[[[[[[[[[[[[[[[[[[[[[[[[[[[[[[[[[[[[[[[[[[[[[[[[[[[[[[[[[[[[[[[[[[[[[[[[[[[[[[[[[[[[[[[[[[[[[[[[[[[[[[[[[[[[[[[[[[]]]]]]]]]]]]]]]]]]]]]]]]]]]]]]]]]]]]]]]]]]]]]]]]]]]]]]]]]]]]]]]]]]]]]]]]]]]]]]]]]]]]]]]]]]]]]]]]]]]]]]]]]]]]]]]]]]]]]]]]]]]]]]",
         ),
-        (r#"{"id":-0,"method":"m"}"#, "no request, null"),
-        (r#"{"id":1.0,"method":"m"}"#, "no request, null"),
-        (r#"{"id":1e2,"method":"m"}"#, "no request, null"),
+        (r#"{"id":-0,"method":"m"}"#, "not a request, null"),
+        (r#"{"id":1.0,"method":"m"}"#, "not a request, null"),
+        (r#"{"id":1e2,"method":"m"}"#, "not a request, null"),
         (
             r#"{"id":18446744073709551616,"method":"m"}"#,
-            "no request, null",
+            "not a request, null",
         ),
         (
             r#"{"id":-9223372036854775809,"method":"m"}"#,
-            "no request, null",
+            "not a request, null",
         ),
-        (r#"{"id":false,"method":"m"}"#, "no request, null"),
-        (r#"{"id":[1],"method":"m"}"#, "no request, null"),
-        (r#"[{"id":1,"method":"m"}]"#, "no request, null"),
-        (r#""m""#, "no request, null"),
-        ("null", "no request, null"),
-        (r#"{"id":7}"#, "no request, unsigned 7"),
-        (r#"{"id":-7,"method":["m"]}"#, "no request, signed -7"),
+        (r#"{"id":false,"method":"m"}"#, "not a request, null"),
+        (r#"{"id":[1],"method":"m"}"#, "not a request, null"),
+        (r#"[{"id":1,"method":"m"}]"#, "not a request, null"),
+        (r#""m""#, "not a request, null"),
+        ("null", "not a request, null"),
+        (r#"{"id":7}"#, "not a request, unsigned 7"),
+        (r#"{"id":-7,"method":["m"]}"#, "not a request, signed -7"),
         (
             r#"{"id":"x","method":null,"params":1}"#,
-            "no request, text x",
+            "not a request, text x",
         ),
         (
             r#"{"id":7,"method":"m","params":1}"#,
-            "no request, unsigned 7",
+            "not a request, unsigned 7",
         ),
         (
             r#"{"id":7,"method":"m","params":"x"}"#,
-            "no request, unsigned 7",
+            "not a request, unsigned 7",
         ),
         (
             r#"{"id":7,"method":"m","params":true}"#,
-            "no request, unsigned 7",
+            "not a request, unsigned 7",
         ),
-        ("", "no JSON"),
-        (r#"{"id":1,"method":"m""#, "no JSON"),
-        (r#"{"id":1,"method":"m"}]"#, "no JSON"),
-        ("{\"id\":\"\\ud800\",\"method\":\"m\"}", "no JSON"),
-        (r#"{"id":1e400,"method":"m"}"#, "no JSON"),
-        (r#"{"id":01,"method":"m"}"#, "no JSON"),
-        ("{\"id\":\"a\tb\",\"method\":\"m\"}", "no JSON"),
+        ("", "not JSON"),
+        (r#"{"id":1,"method":"m""#, "not JSON"),
+        (r#"{"id":1,"method":"m"}]"#, "not JSON"),
+        ("{\"id\":\"\\ud800\",\"method\":\"m\"}", "not JSON"),
+        (r#"{"id":1e400,"method":"m"}"#, "not JSON"),
+        (r#"{"id":01,"method":"m"}"#, "not JSON"),
+        ("{\"id\":\"a\tb\",\"method\":\"m\"}", "not JSON"),
         (
             r#"{"method":"m","params":[[[[[[[[[[[[[[[[[[[[[[[[[[[[[[[[[[[[[[[[[[[[[[[[[[[[[[[[[[[[[[[[[[[[[[[[[[[[[[[[[[[[[[[[[[[[[[[[[[[[[[[[[[[[[[[[[[[[[[[[[[[[[[[]]]]]]]]]]]]]]]]]]]]]]]]]]]]]]]]]]]]]]]]]]]]]]]]]]]]]]]]]]]]]]]]]]]]]]]]]]]]]]]]]]]]]]]]]]]]]]]]]]]]]]]]]]]]]]]]]]]]]]]]]]]]]]]}"#,
-            "no JSON",
+            "not JSON",
         ),
     ];
     for (line, expected) in rows {
-        let found = asked(rt.alloc(), line.as_bytes())?;
+        let found = read(rt.alloc(), line.as_bytes())?;
         assert!(rt; found.as_str() == expected, "{line} is {found}");
     }
-    let found = asked(rt.alloc(), b"{\"id\":\"\xff\",\"method\":\"m\"}")?;
-    assert!(rt; found.as_str() == "no JSON");
+    let found = read(rt.alloc(), b"{\"id\":\"\xff\",\"method\":\"m\"}")?;
+    assert!(rt; found.as_str() == "not JSON");
     Ok(())
+}
+
+fn is_line(alloc: Global, id: Id, body: Body, expected: &str) -> Result<bool, Fail> {
+    let line = write_reply(alloc, &Reply { id, body })?;
+    Ok(line.as_slice() == expected.as_bytes())
 }
 
 #[test]
 fn replies_have_these_bytes(rt: HostRuntime) -> Result<(), Fail> {
     let alloc = rt.alloc();
-    let done = json!(in alloc; {"at": 0})?;
-    let reply = Reply {
-        id: Id::Unsigned(1),
-        body: Body::Result(done),
-    };
-    let line = write_reply(alloc, &reply)?;
-    assert!(rt;
-        line.as_slice() == "{\"id\":1,\"jsonrpc\":\"2.0\",\"result\":{\"at\":0}}\n".as_bytes()
-    );
-
-    let reply = Reply {
-        id: Id::Null,
-        body: Body::Place { at: 4_194_303 },
-    };
-    let line = write_reply(alloc, &reply)?;
-    assert!(rt;
-        line.as_slice()
-            == "{\"id\":null,\"jsonrpc\":\"2.0\",\"result\":{\"at\":4194303}}\n".as_bytes()
-    );
-
-    let detail = json!(in alloc; {"layer": "x", "at": 1})?;
-    let reply = Reply {
-        id: Id::Unsigned(2),
-        body: Body::error(alloc, 301, "layer exists", detail)?,
-    };
-    let line = write_reply(alloc, &reply)?;
-    assert!(rt;
-        line.as_slice()
-            == "{\"error\":{\"code\":301,\"data\":{\"at\":1,\"layer\":\"x\"},\"message\":\"layer exists\"},\"id\":2,\"jsonrpc\":\"2.0\"}\n".as_bytes()
-    );
-
-    let detail = json!(in alloc; {})?;
-    let reply = Reply {
-        id: Id::Null,
-        body: Body::error(alloc, -32700, "a \"b\" \\ / \u{1f}\u{7f}é", detail)?,
-    };
-    let line = write_reply(alloc, &reply)?;
-    assert!(rt;
-        line.as_slice()
-            == "{\"error\":{\"code\":-32700,\"data\":{},\"message\":\"a \\\"b\\\" \\\\ / \\u001f\u{7f}é\"},\"id\":null,\"jsonrpc\":\"2.0\"}\n".as_bytes()
-    );
-
-    let id = Text::from_text(alloc, "\n\u{0}☃")?;
-    let reply = Reply {
-        id: Id::Text(id),
-        body: Body::Result(Value::Null),
-    };
-    let line = write_reply(alloc, &reply)?;
-    assert!(rt;
-        line.as_slice()
-            == "{\"id\":\"\\n\\u0000☃\",\"jsonrpc\":\"2.0\",\"result\":null}\n".as_bytes()
-    );
-
-    let reply = Reply {
-        id: Id::Signed(-9223372036854775808),
-        body: Body::Result(Value::Bool(true)),
-    };
-    let line = write_reply(alloc, &reply)?;
-    assert!(rt;
-        line.as_slice()
-            == "{\"id\":-9223372036854775808,\"jsonrpc\":\"2.0\",\"result\":true}\n".as_bytes()
-    );
+    let error = Body::error(
+        alloc,
+        301,
+        "layer exists",
+        json!(in alloc; {"layer": "x", "at": 1})?,
+    )?;
+    let escaped = Body::error(
+        alloc,
+        -32700,
+        "a \"b\" \\ / \u{1f}\u{7f}é",
+        json!(in alloc; {})?,
+    )?;
+    let text = Id::Text(Text::from_text(alloc, "\n\u{0}☃")?);
+    let object = Body::result(json!(in alloc; {"at": 0})?);
+    let rows = [
+        (
+            Id::Unsigned(1),
+            object,
+            "{\"id\":1,\"jsonrpc\":\"2.0\",\"result\":{\"at\":0}}\n",
+        ),
+        (
+            Id::Null,
+            Body::place(4_194_303),
+            "{\"id\":null,\"jsonrpc\":\"2.0\",\"result\":{\"at\":4194303}}\n",
+        ),
+        (
+            Id::Unsigned(2),
+            error,
+            "{\"error\":{\"code\":301,\"data\":{\"at\":1,\"layer\":\"x\"},\"message\":\"layer exists\"},\"id\":2,\"jsonrpc\":\"2.0\"}\n",
+        ),
+        (
+            Id::Null,
+            escaped,
+            "{\"error\":{\"code\":-32700,\"data\":{},\"message\":\"a \\\"b\\\" \\\\ / \\u001f\u{7f}é\"},\"id\":null,\"jsonrpc\":\"2.0\"}\n",
+        ),
+        (
+            text,
+            Body::result(Value::Null),
+            "{\"id\":\"\\n\\u0000☃\",\"jsonrpc\":\"2.0\",\"result\":null}\n",
+        ),
+        (
+            Id::Signed(-9223372036854775808),
+            Body::result(Value::Bool(true)),
+            "{\"id\":-9223372036854775808,\"jsonrpc\":\"2.0\",\"result\":true}\n",
+        ),
+    ];
+    for (id, body, expected) in rows {
+        assert!(rt; is_line(alloc, id, body, expected)?, "not {expected}");
+    }
     Ok(())
 }

@@ -1,4 +1,4 @@
-//! Whole texts from a source and into a sink, piece by piece.
+//! Reads all bytes of a source, and writes all bytes of a text to a sink.
 #![tactic(auto)]
 
 mod read;

@@ -5,7 +5,7 @@ use std::test::Fail;
 
 const TEXT: &str = "askrene";
 
-// What is read of the text in pieces of 3 bytes, where the calls that are listed fail.
+// Reads the text in pieces of 3 bytes from a source whose listed calls fail.
 fn reads(alloc: Global, limit: usize, fails: &[u64]) -> Result<Result<Vec<u8>, InputFault>, Fail> {
     let mut source = MemSource::new(TEXT.as_bytes().to_vec(alloc)?, 3, fails.to_vec(alloc)?);
     Ok(read_all(alloc, &mut source, limit))

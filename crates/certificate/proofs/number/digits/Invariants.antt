@@ -4,8 +4,8 @@ use Rattle.certificate.specs.Reading.{read_on}
 use Rattle.certificate.proofs.number.digits.Given as goal
 
 abbrev pub invariant-loop-byte : goal.invariant-loop-byte
-invariant-loop-byte l = record {
+invariant-loop-byte g l = record {
   read : l.len ≡ l.byte-index;
   all : all_ascii_digits (take l.len l.text) ≡ true;
-  value : l.value ≡ read_on 0 (take l.len l.text);
+  value : g.N.Digits.value l.value ≡ read_on 0 (take l.len l.text);
 }

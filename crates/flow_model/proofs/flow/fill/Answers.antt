@@ -2,8 +2,11 @@ use Rattle.std.proofs.Common.{◌∙◌, ◌<◌, ◌≤◌, ap, length}
 use Rattle.std.proofs.lemmas.List.Elements.{All-weaker}
 use Rattle.std.specs.Prelude.{slice_index}
 use Rattle.flow_model.specs.Flow.{flow_of, room_of}
-use Rattle.flow_model.proofs.Filled.{fits-filled, in_order-filled, units-filled}
+use Rattle.flow_model.proofs.Filled.{fits-filled, in_order-filled, length-flow_of, units-filled}
 use Rattle.flow_model.proofs.flow.fill.Goals as goal
+
+pub returns-clause-long : goal.returns-clause-long
+returns-clause-long c = ap length (c.in_ok-units.ensures ∙ ap (flow_of (slice_index c.args.units.now)) c.arcs.ensures.value) ∙ length-flow_of (slice_index c.args.units.now) c.args.instance.now.arcs
 
 pub returns-clause-fits : goal.returns-clause-fits
 returns-clause-fits c = fits-filled c.args.instance.now (slice_index c.args.units.now) _ (c.in_ok-units.ensures ∙ ap (flow_of (slice_index c.args.units.now)) c.arcs.ensures.value)

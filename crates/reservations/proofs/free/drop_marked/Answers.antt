@@ -7,7 +7,7 @@ use Rattle.reservations.proofs.free.drop_marked.Goals as goal
 use Rattle.reservations.proofs.free.drop_marked.Goals.{then-not-marks-place, else-not-marks-place}
 
 pub loop-place-init : goal.loop-place-init
-loop-place-init c = record { front = sym (unmarked_none _); rest = refl; behind = omega arith; within = omega arith; long = refl }
+loop-place-init c = record { front = sym (unmarked_none _); rest = refl; kept_before = omega arith; within = omega arith; long = refl }
 
 pub loop-place-preserved : goal.loop-place-preserved
 loop-place-preserved c = elim c.if-not-marks-place.branch [

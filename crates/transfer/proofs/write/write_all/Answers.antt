@@ -15,4 +15,5 @@ loop-done-preserved g c =
       omega (arith, most, c.loop-done.invariant.0, c.loop-done-test.true),
       rw (take-add done count bytes) grown,
       omega (arith, c.loop-done.invariant.2, c.in-Ok.ensures.cause.never_falls),
+      rw c.in-Ok.ensures.beside c.loop-done.invariant.3,
     )

@@ -1,6 +1,6 @@
 use Rattle.std.proofs.Common.{◌≡◌, true, false, sym, ap, ◌∙◌, Result, Ok, Err}
 use Rattle.std.specs.Result.{OnErr}
-use Rattle.line_cut.specs.Held.{Held, has_feed}
+use Rattle.line_cut.specs.Buffered.{Buffered, has_feed}
 use Rattle.line_cut.specs.Steps.{wants_more}
 use Rattle.line_cut.specs.declared.cut.Cut.TheVariants.{Line, End, Long}
 use Rattle.line_cut.proofs.Calls.{cut_is_line, cut_is_end, cut_is_long, cut_is_end_again, cut_is_long_again, cut_keeps_ended, cuts_line, cuts_at_feed, line_has_no_feed, nothing_left, long_next}
@@ -12,8 +12,8 @@ on_err : {T E : Type 0} {P : Type 0} (result : Result T E) → P → OnErr resul
 on_err (Ok value) holds = tt
 on_err (Err fault) holds = holds
 
--- a read was wanted where none was wanted at first
-no_read : (old mid : Held) {P : Type 0} → (wants_more old ≡ false → (mid ≡ old) × P) → wants_more mid ≡ true → wants_more old ≡ false → ⊥
+-- a contradiction: a read is wanted although none was wanted at first
+no_read : (old mid : Buffered) {P : Type 0} → (wants_more old ≡ false → (mid ≡ old) × P) → wants_more mid ≡ true → wants_more old ≡ false → ⊥
 no_read old mid same wanted still = let wrong : true ≡ false = sym wanted ∙ ap wants_more (same still).0 ∙ still in cc
 
 pub returns-in_err-fill-clause-long_again : goal.returns-in_err-fill-clause-long_again
@@ -26,11 +26,11 @@ returns-in_err-fill-clause-end_again g c = λ ended none.
 
 pub returns-in_err-fill-clause-no_feed : goal.returns-in_err-fill-clause-no_feed
 returns-in_err-fill-clause-no_feed g c =
-    on_err _ (ap (λ (h : Held). has_feed h.rest) c.in_err-fill.ensures.fault ∙ no_feed_when_wanted c.reads.self (sym c.wants_more.ensures ∙ c.reads-test.true))
+    on_err _ (ap (λ (h : Buffered). has_feed h.rest) c.in_err-fill.ensures.fault ∙ no_feed_when_wanted c.reads.self (sym c.wants_more.ensures ∙ c.reads-test.true))
 
 pub returns-in_err-fill-clause-open : goal.returns-in_err-fill-clause-open
 returns-in_err-fill-clause-open g c =
-    on_err _ (ap (λ (h : Held). h.ended) c.in_err-fill.ensures.fault ∙ open_when_wanted c.reads.self (sym c.wants_more.ensures ∙ c.reads-test.true))
+    on_err _ (ap (λ (h : Buffered). h.ended) c.in_err-fill.ensures.fault ∙ open_when_wanted c.reads.self (sym c.wants_more.ensures ∙ c.reads-test.true))
 
 pub returns-in_err-fill-clause-stops : goal.returns-in_err-fill-clause-stops
 returns-in_err-fill-clause-stops g c = λ ended.
@@ -85,7 +85,7 @@ returns-clause-long_again g c = λ long.
 pub returns-clause-end_again : goal.returns-clause-end_again
 returns-clause-end_again g c = λ ended none.
     let same = (c.reads.invariant.4 (still_when_ended _ ended)).0 in
-    ap Ok (cut_is_end_again _ _ _ c.cut.ensures (ap (λ (h : Held). h.rest) same ∙ none))
+    ap Ok (cut_is_end_again _ _ _ c.cut.ensures (ap (λ (h : Buffered). h.rest) same ∙ none))
 
 pub returns-clause-stops : goal.returns-clause-stops
 returns-clause-stops g c = λ ended. (c.reads.invariant.4 (still_when_ended _ ended)).1
@@ -95,4 +95,10 @@ returns-clause-ready g c = λ feed. (c.reads.invariant.4 (still_when_whole _ fee
 
 pub returns-clause-ended : goal.returns-clause-ended
 returns-clause-ended g c = λ ended.
-    cut_keeps_ended _ _ _ c.cut.ensures ∙ ap (λ (h : Held). h.ended) (c.reads.invariant.4 (still_when_ended _ ended)).0 ∙ ended
+    cut_keeps_ended _ _ _ c.cut.ensures ∙ ap (λ (h : Buffered). h.ended) (c.reads.invariant.4 (still_when_ended _ ended)).0 ∙ ended
+
+pub returns-in_err-fill-clause-at_end : goal.returns-in_err-fill-clause-at_end
+returns-in_err-fill-clause-at_end g c = λ going ended. c.in_err-fill.ensures.at_end ended
+
+pub returns-clause-at_end : goal.returns-clause-at_end
+returns-clause-at_end g c = λ going ended. c.reads.invariant.5 going (sym (cut_keeps_ended _ _ _ c.cut.ensures) ∙ ended)

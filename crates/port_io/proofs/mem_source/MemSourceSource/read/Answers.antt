@@ -1,4 +1,4 @@
-use Rattle.std.proofs.Common.{take, drop, length}
+use Rattle.std.proofs.Common.{length}
 use Rattle.std.proofs.lemmas.List.{take_rest}
 use Rattle.port_io.proofs.Pieces.{front_and_rest, none_at_the_end}
 use Rattle.port_io.proofs.mem_source.MemSourceSource.read.Goals as goal

@@ -1,6 +1,0 @@
-use Rattle.params.proofs.Trips.{inform_channel_trip}
-use Rattle.params.proofs.channel_methods.write_inform_channel.Goals as goal
-
-pub returns-clause-back : goal.returns-clause-back
-returns-clause-back c =
-    inform_channel_trip _ _ _ _ c.in_ok-put_required.ensures.back c.in_ok-put_required-2.ensures.back c.in_ok-put_required-3.ensures.back c.in_ok-put_required-4.ensures.back c.requires.inform.least

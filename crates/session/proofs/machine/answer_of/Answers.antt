@@ -1,0 +1,6 @@
+use Rattle.session.proofs.Positions.{answered_at}
+use Rattle.session.proofs.machine.answer_of.Goals as goal
+
+pub returns-in-Ok-clause-body : goal.returns-in-Ok-clause-body
+returns-in-Ok-clause-body c =
+    answered_at _ _ c.in-Some.told _ c.in-Some.ensures.waits c.in-Some.ensures.reply c.in-Ok.ensures

@@ -1,0 +1,63 @@
+ghost use Rattle.std.specs.Prelude.{◌≡◌, IfSome};
+ghost use Rattle.port_io.specs.Faults.{Rose};
+ghost use Rattle.session.specs.Answers.{Answers};
+ghost use Rattle.session.specs.Caller.{only_caller};
+ghost use Rattle.session.specs.Session.{IsToldSession, IsServable, EndsWell};
+
+use crate::answerer::EventAnswers;
+use crate::lines::serve_lines;
+use crate::wire::Pair;
+use askrene_state::State;
+use one_history::Journal;
+use port_io::{Clock, SessionEnd, Sink, Source};
+use std::alloc::Global;
+
+/// Serves the lines of an input, each reply written whole before the next line is read. Commits as caller 0 and waits for
+/// nobody.
+#[tactic(auto, using(crate::proofs::Complete::ends_well))]
+pub fn ask_loop<I: Source, O: Sink, C: Clock>(
+    alloc: Global,
+    journal: &mut Journal<State>,
+    input: &mut I,
+    output: &mut O,
+    clock: &mut C,
+) -> SessionEnd
+    ensures session { IsToldSession Answers only_caller result (record {
+      input = I.left input.old;
+      rest = I.left input.new;
+      output = O.written output.old;
+      written = O.written output.new;
+      before = record { log = journal.old; clock = C.moments clock.old };
+      after = record { log = journal.new; clock = C.moments clock.new };
+    }) }
+    ensures read_fault { result ≡ SessionEnd.ReadFault → Rose (I.read_faults input.old) (I.read_faults input.new) }
+    ensures write_fault { result ≡ SessionEnd.WriteFault → Rose (O.write_faults output.old) (O.write_faults output.new) }
+    ensures complete { IfSome (I.left input.old) (λ bytes. IsServable bytes
+        → (Rose (I.read_faults input.old) (I.read_faults input.new) → ⊥)
+        → (Rose (O.write_faults output.old) (O.write_faults output.new) → ⊥) → EndsWell result) }
+{
+    serve_streams(alloc, journal, input, output, clock)
+}
+
+// The session without its completeness.
+fn serve_streams<I: Source, O: Sink, C: Clock>(
+    alloc: Global,
+    journal: &mut Journal<State>,
+    input: &mut I,
+    output: &mut O,
+    clock: &mut C,
+) -> SessionEnd
+    ensures session { IsToldSession Answers only_caller result (record {
+      input = I.left input.old;
+      rest = I.left input.new;
+      output = O.written output.old;
+      written = O.written output.new;
+      before = record { log = journal.old; clock = C.moments clock.old };
+      after = record { log = journal.new; clock = C.moments clock.new };
+    }) }
+    ensures read_fault { result ≡ SessionEnd.ReadFault → Rose (I.read_faults input.old) (I.read_faults input.new) }
+    ensures write_fault { result ≡ SessionEnd.WriteFault → Rose (O.write_faults output.old) (O.write_faults output.new) }
+{
+    let mut wire = Pair { input, output };
+    serve_lines(alloc, journal, &EventAnswers, &mut wire, clock)
+}

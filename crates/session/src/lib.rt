@@ -1,0 +1,23 @@
+//! Serves the lines of one connection: each line is read, committed as one entry if it is a command, and answered.
+#![tactic(auto)]
+
+mod alone;
+mod answerer;
+mod caller;
+mod limits;
+mod line;
+mod lines;
+mod machine;
+mod reply;
+#[cfg(test)]
+mod tests;
+mod turn;
+mod wire;
+
+pub use alone::ask_loop;
+pub use answerer::{Answerer, EventAnswers};
+pub use caller::Caller;
+pub use limits::LINES_MAX;
+pub use lines::serve_lines;
+pub use machine::answer_of;
+pub use wire::{Pair, Wire};
