@@ -1,4 +1,4 @@
--- A session whose input can be served whole ends with its input, or for want of memory or a fault.
+-- A session whose input can be served whole ends with its input, out of memory, or with a fault.
 use Rattle.std.proofs.Common.{◌≡◌, ◌<◌, ◌≤◌, ◌+◌, ◌∙◌, ℕ, List, ◌∷◌, ◌++◌, length, Bool, true, false, ◌||◌, nat_lt, Some, None, Option, refl, sym, length-append, arith}
 use Rattle.std.specs.Prelude.{IfSome}
 use Rattle.std.proofs.lemmas.List.Folds.{list_any-append}

@@ -3,6 +3,7 @@ ghost use Rattle.port_io.specs.Faults.{Rose};
 ghost use Rattle.session.specs.Answers.{Answers};
 ghost use Rattle.session.specs.Caller.{only_caller};
 ghost use Rattle.session.specs.Session.{IsToldSession, IsServable, EndsWell};
+ghost use Rattle.session.specs.declared.limits.TheConstants.{LINES_MAX};
 
 use crate::answerer::EventAnswers;
 use crate::lines::serve_lines;
@@ -12,8 +13,8 @@ use one_history::Journal;
 use port_io::{Clock, SessionEnd, Sink, Source};
 use std::alloc::Global;
 
-/// Serves the lines of an input, each reply written whole before the next line is read. Commits as caller 0 and waits for
-/// nobody.
+/// Serves the lines of an input, at most 1,000,000, each reply written whole before the next line is read. Commits as caller
+/// 0 and waits for nobody. A fault of the input or the output, a line that is too long, and one line more end the session.
 #[tactic(auto, using(crate::proofs::Complete::ends_well))]
 pub fn ask_loop<I: Source, O: Sink, C: Clock>(
     alloc: Global,
@@ -32,6 +33,7 @@ pub fn ask_loop<I: Source, O: Sink, C: Clock>(
     }) }
     ensures read_fault { result ≡ SessionEnd.ReadFault → Rose (I.read_faults input.old) (I.read_faults input.new) }
     ensures write_fault { result ≡ SessionEnd.WriteFault → Rose (O.write_faults output.old) (O.write_faults output.new) }
+    ensures limit { LINES_MAX ≡ 1000000 }
     ensures complete { IfSome (I.left input.old) (λ bytes. IsServable bytes
         → (Rose (I.read_faults input.old) (I.read_faults input.new) → ⊥)
         → (Rose (O.write_faults output.old) (O.write_faults output.new) → ⊥) → EndsWell result) }
