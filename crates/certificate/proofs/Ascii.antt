@@ -18,7 +18,7 @@ use Rattle.flow_model.proofs.Balance.{All-zip}
 use Rattle.certificate.specs.declared.limits.TheConstants.{CERT_NODES_MAX}
 use Rattle.certificate.specs.Certificate.{Certificate, IsAnswerFor, IsCertificate}
 use Rattle.certificate.specs.Text.{fields, text_line, head_line, kind_of, problem_line, arc_line, arc_lines, potential_line, side_line, node_lines, end_line, certificate_lines, certificate_text}
-use Rattle.certificate.proofs.Shapes.{All-seconds}
+use Rattle.certificate.proofs.Loads.{All-units}
 
 abbrev IsAsciiText : List ℕ → Type 0
 IsAsciiText text = All (λ byte. byte < 128) text
@@ -91,15 +91,15 @@ kind_ascii (Cut side) = refl
 problem_ascii : (c : Certificate) → IsCertificate c → IsAsciiText (problem_line c.net c.answer)
 unfolding problem_line
 problem_ascii c good = line_ascii (kind_of c.answer) (c.net.nodes ∷ length c.net.arcs ∷ c.net.source ∷ c.net.destination ∷ c.net.demand ∷ []) (kind_ascii c.answer)
-    (omega (arith, good.few_nodes), (omega (arith, good.few_arcs), (omega (arith, good.few_nodes, good.ends.source_in), (omega (arith, good.few_nodes, good.ends.destination_in), (omega (arith, good.most_demand), tt)))))
+    (omega (arith, good.ranges.few_nodes), (omega (arith, good.ranges.few_arcs), (omega (arith, good.ranges.few_nodes, good.ranges.ends.source_in), (omega (arith, good.ranges.few_nodes, good.ranges.ends.destination_in), (omega (arith, good.ranges.most_demand), tt)))))
 
 arcs_ascii : (net : Net) (answer : Solved) → IsCertificate (record { net = net; answer = answer }) → All IsAsciiText (arc_lines net answer)
 arcs_ascii net (Flow flow potentials) c = All-map IsAsciiText (λ (l : Arc × ℕ). arc_line l.0 (l.1 ∷ [])) (zip net.arcs flow) λ k d l.
-    let from = All-zip (λ a. a.from < net.nodes) net.arcs flow c.ends.froms k d l in
-    let to = All-zip (λ a. a.to < net.nodes) net.arcs flow c.ends.tos k d l in
-    let units = All-seconds (λ n. n ≤ MAX) net.arcs flow c.answer.1 k d l in
-    arc_ascii net.nodes _ _ c.few_nodes from to (All-zip IsGoodArc net.arcs flow c.good_arcs k d l) (omega (arith, units), tt)
-arcs_ascii net (Cut side) c = All-map IsAsciiText (λ (a : Arc). arc_line a []) net.arcs (λ k d l. arc_ascii net.nodes _ [] c.few_nodes (c.ends.froms k d l) (c.ends.tos k d l) (c.good_arcs k d l) tt)
+    let from = All-zip (λ a. a.from < net.nodes) net.arcs flow c.ranges.ends.froms k d l in
+    let to = All-zip (λ a. a.to < net.nodes) net.arcs flow c.ranges.ends.tos k d l in
+    let units = All-units (λ n. n ≤ MAX) net.arcs flow c.answer.1 k d l in
+    arc_ascii net.nodes _ _ c.ranges.few_nodes from to (All-zip IsGoodArc net.arcs flow c.ranges.good_arcs k d l) (omega (arith, units), tt)
+arcs_ascii net (Cut side) c = All-map IsAsciiText (λ (a : Arc). arc_line a []) net.arcs (λ k d l. arc_ascii net.nodes _ [] c.ranges.few_nodes (c.ranges.ends.froms k d l) (c.ranges.ends.tos k d l) (c.ranges.good_arcs k d l) tt)
 
 nodes_ascii : (net : Net) (answer : Solved) → IsAnswerFor net answer → All IsAsciiText (node_lines answer)
 nodes_ascii net (Flow flow potentials) h = All-map IsAsciiText potential_line potentials (All-weaker IsSmall (λ z. IsAsciiText (potential_line z)) potential_ascii potentials h.3)

@@ -5,16 +5,17 @@ use Rattle.std.specs.Fmt.{signed_decimal}
 use Rattle.std.proofs.lemmas.Bool.{eqb-true, eqb-false, ne_eqb, ltb-false, le-ltb}
 use Rattle.std.proofs.lemmas.Option.{none-some}
 use Rattle.std.proofs.lemmas.Int.{ints}
+use Rattle.std.proofs.lemmas.List.Elements.{All-nil}
 use Rattle.plan_base.specs.declared.amount.TheConstants.{MAX}
 use Rattle.flow_model.specs.Instance.{IsGoodArc}
 use Rattle.flow_model.specs.Potentials.{IsSmall}
 use Rattle.flow_model.specs.declared.limits.TheConstants.{COST_MAX, POTENTIAL_MAX}
 use Rattle.certificate.specs.declared.limits.TheConstants.{VERSION, CERT_ARCS_MAX, CERT_NODES_MAX, POTENTIAL_DIGITS_MAX}
-use Rattle.certificate.specs.declared.cert.CertArc.{CertArc}
+use Rattle.flow_model.specs.declared.instance.Arc.{Arc}
 use Rattle.certificate.specs.declared.problem.Problem.{Problem}
 use Rattle.certificate.specs.declared.problem.CertificateKind.{CertificateKind}
 use Rattle.certificate.specs.declared.problem.CertificateKind.TheVariants as Kinds
-use Rattle.certificate.specs.Cert.{arc_of, IsGoodProblem}
+use Rattle.certificate.specs.Cert.{IsGoodProblem}
 use Rattle.certificate.specs.Text.{fields, head_line, arc_line, potential_line, side_line, end_line}
 use Rattle.certificate.specs.Reading.{read_head, read_kind, read_problem, read_units, read_arc, read_negative, read_signed, read_potential, read_side, read_end, read_field, read_word, read_byte, read_number}
 use Rattle.certificate.proofs.Chains.{cond_some, cond_none, and_then_some, same_parts}
@@ -175,6 +176,13 @@ unfolding read_kind
 read_kind_complete Kinds.Flow rest = refl
 read_kind_complete Kinds.Cut rest = refl
 
+-- the source and the destination are two nodes
+pub some_nodes : (p : Problem) → IsGoodProblem p → 2 ≤ p.nodes
+some_nodes p good = by p.nodes p.source p.destination good.ranges.ends.source_in good.ranges.ends.destination_in good.ranges.ends.apart
+  where
+    by : (n s d : ℕ) → s < n → d < n → (s ≡ d → ⊥) → 2 ≤ n
+    by n s d sn dn ne = omega (arith, sn, dn, ne)
+
 pub read_problem_sound : (text rest : List ℕ) (p : Problem) → read_problem text ≡ Some (p, rest) → IsGoodProblem p × (text ≡ problem_fields p ++ rest)
 unfolding read_problem problem_fields
 read_problem_sound text rest p e =
@@ -193,17 +201,25 @@ read_problem_sound text rest p e =
     let f3 = read_field_sound (n.0 - 1) m.1 s.1 s.0 field3 in
     let f4 = read_field_sound (n.0 - 1) s.1 d.1 d.0 field4 in
     let f5 = read_field_sound MAX d.1 u.1 u.0 field5 in
+    let two = ltb-false n.0 2 some.0 in
     let none_of = eqb-false u.0 0 demand.0 in
     subst (λ q. IsGoodProblem q × (text ≡ problem_fields q ++ rest)) h.0 (
       record {
-        some_nodes = ltb-false n.0 2 some.0;
-        few_nodes = f1.0;
+        ranges = record {
+          ends = record {
+            source_in = omega (arith, f3.0, two);
+            destination_in = omega (arith, f4.0, two);
+            apart = eqb-false s.0 d.0 apart.0;
+            froms = All-nil _;
+            tos = All-nil _;
+          };
+          few_nodes = f1.0;
+          few_arcs = omega arith;
+          some_demand = omega (arith, none_of);
+          most_demand = f5.0;
+          good_arcs = All-nil _;
+        };
         few_arcs = f2.0;
-        source_in = f3.0;
-        destination_in = f4.0;
-        apart = eqb-false s.0 d.0 apart.0;
-        some_demand = omega (arith, none_of);
-        most_demand = f5.0;
       },
       fields_step n.0 (m.0 ∷ s.0 ∷ d.0 ∷ u.0 ∷ []) text n.1 rest f1.1 (fields_step m.0 (s.0 ∷ d.0 ∷ u.0 ∷ []) n.1 m.1 rest f2.1 (fields_step s.0 (d.0 ∷ u.0 ∷ []) m.1 s.1 rest f3.1 (fields_step d.0 (u.0 ∷ []) s.1 d.1 rest f4.1 (fields_step u.0 [] d.1 u.1 rest f5.1 (read_byte_sound 10 u.1 b byte ∙ ap (λ r. 10 ∷ r) h.1))))),
     )
@@ -211,51 +227,53 @@ read_problem_sound text rest p e =
 pub read_problem_complete : (p : Problem) (rest : List ℕ) → IsGoodProblem p → read_problem (problem_fields p ++ rest) ≡ Some (p, rest)
 unfolding read_problem problem_fields
 read_problem_complete p rest good =
-    let nodes : p.nodes - 1 < 10 ^ 19 = omega (arith, good.few_nodes) in
+    let ranges = good.ranges in
+    let nodes : p.nodes - 1 < 10 ^ 19 = omega (arith, ranges.few_nodes) in
     rw (
-      read_field_complete CERT_NODES_MAX p.nodes _ rest good.few_nodes (omega arith),
+      read_field_complete CERT_NODES_MAX p.nodes _ rest ranges.few_nodes (omega arith),
       read_field_complete CERT_ARCS_MAX p.arcs _ rest good.few_arcs (omega arith),
-      read_field_complete (p.nodes - 1) p.source _ rest good.source_in nodes,
-      read_field_complete (p.nodes - 1) p.destination _ rest good.destination_in nodes,
-      read_field_complete MAX p.demand [] rest good.most_demand (omega arith),
-      le-ltb p.nodes 2 good.some_nodes,
-      ne_eqb p.source p.destination good.apart,
-      ne_eqb p.demand 0 (λ e. omega (arith, good.some_demand, e)),
+      read_field_complete (p.nodes - 1) p.source _ rest (omega (arith, ranges.ends.source_in)) nodes,
+      read_field_complete (p.nodes - 1) p.destination _ rest (omega (arith, ranges.ends.destination_in)) nodes,
+      read_field_complete MAX p.demand [] rest ranges.most_demand (omega arith),
+      le-ltb p.nodes 2 (some_nodes p good),
+      ne_eqb p.source p.destination ranges.ends.apart,
+      ne_eqb p.demand 0 (λ e. omega (arith, ranges.some_demand, e)),
     ) refl
 
 -- what an arc's line keeps
-abbrev pub IsLoad : CertificateKind → CertArc → Type 0
-IsLoad Kinds.Flow a = a.units ≤ MAX
-IsLoad Kinds.Cut a = a.units ≡ 0
+abbrev pub IsLoad : CertificateKind → Arc × ℕ → Type 0
+IsLoad Kinds.Flow l = l.1 ≤ MAX
+IsLoad Kinds.Cut l = l.1 ≡ 0
 
-pub record IsGoodLine (kind : CertificateKind) (nodes : ℕ) (a : CertArc) : Type 0 where
-  pub from_in : a.from ≤ nodes - 1
-  pub to_in : a.to ≤ nodes - 1
-  pub good : IsGoodArc (arc_of a)
-  pub load : IsLoad kind a
+pub record IsGoodLine (kind : CertificateKind) (nodes : ℕ) (l : Arc × ℕ) : Type 0 where
+  pub from_in : l.0.from ≤ nodes - 1
+  pub to_in : l.0.to ≤ nodes - 1
+  pub good : IsGoodArc l.0
+  pub no_direction : l.0.dir ≡ 0
+  pub load : IsLoad kind l
 
-abbrev pub units_field : CertificateKind → CertArc → List ℕ
-units_field Kinds.Flow a = a.units ∷ []
-units_field Kinds.Cut a = []
+abbrev pub units_field : CertificateKind → Arc × ℕ → List ℕ
+units_field Kinds.Flow l = l.1 ∷ []
+units_field Kinds.Cut l = []
 
-abbrev pub load_line : CertificateKind → CertArc → List ℕ
-load_line kind a = arc_line (arc_of a) (units_field kind a)
+abbrev pub load_line : CertificateKind → Arc × ℕ → List ℕ
+load_line kind l = arc_line l.0 (units_field kind l)
 
-read_units_sound : (kind : CertificateKind) (text after rest : List ℕ) (u : ℕ) (a : CertArc) → read_units kind text ≡ Some (u, after) → after ≡ 10 ∷ rest → a.units ≡ u → IsLoad kind a × (text ≡ fields (units_field kind a) ++ rest)
+read_units_sound : (kind : CertificateKind) (text after rest : List ℕ) (u : ℕ) (a : Arc × ℕ) → read_units kind text ≡ Some (u, after) → after ≡ 10 ∷ rest → a.1 ≡ u → IsLoad kind a × (text ≡ fields (units_field kind a) ++ rest)
 unfolding read_units
 read_units_sound Kinds.Flow text after rest u a e behind is =
     let f = read_field_sound MAX text after u e in
-    (omega (arith, f.0, is), fields_step a.units [] text after rest (f.1 ∙ ap (λ n. 32 ∷ (decimal n ++ after)) (sym is)) behind)
+    (omega (arith, f.0, is), fields_step a.1 [] text after rest (f.1 ∙ ap (λ n. 32 ∷ (decimal n ++ after)) (sym is)) behind)
 read_units_sound Kinds.Cut text after rest u a e behind is =
     let h = same_parts 0 u text after e in
     (is ∙ sym h.0, h.1 ∙ behind)
 
-read_units_complete : (kind : CertificateKind) (a : CertArc) (rest : List ℕ) → IsLoad kind a → read_units kind (fields (units_field kind a) ++ rest) ≡ Some (a.units, 10 ∷ rest)
+read_units_complete : (kind : CertificateKind) (a : Arc × ℕ) (rest : List ℕ) → IsLoad kind a → read_units kind (fields (units_field kind a) ++ rest) ≡ Some (a.1, 10 ∷ rest)
 unfolding read_units
-read_units_complete Kinds.Flow a rest load = read_field_complete MAX a.units [] rest load (omega arith)
+read_units_complete Kinds.Flow a rest load = read_field_complete MAX a.1 [] rest load (omega arith)
 read_units_complete Kinds.Cut a rest load = ap (λ n. Some (n, 10 ∷ rest)) (sym load)
 
-pub read_arc_sound : (kind : CertificateKind) (nodes : ℕ) (text rest : List ℕ) (a : CertArc) → read_arc kind nodes text ≡ Some (a, rest) → IsGoodLine kind nodes a × (text ≡ load_line kind a ++ rest)
+pub read_arc_sound : (kind : CertificateKind) (nodes : ℕ) (text rest : List ℕ) (a : Arc × ℕ) → read_arc kind nodes text ≡ Some (a, rest) → IsGoodLine kind nodes a × (text ≡ load_line kind a ++ rest)
 unfolding read_arc arc_line
 read_arc_sound kind nodes text rest a e =
     and_then_some _ (read_word (codes "arc") text) _ e λ w word e1.
@@ -269,7 +287,7 @@ read_arc_sound kind nodes text rest a e =
     let room = cond_none (r.0 == 0) _ _ apart.1 in
     let cost = cond_none (c.0 == 0) _ _ room.1 in
     let h = same_parts _ a b rest cost.1 in
-    let q : CertArc = record { from = f.0; to = t.0; room = r.0; cost = c.0; units = u.0 } in
+    let q : Arc × ℕ = (record { from = f.0; to = t.0; room = r.0; cost = c.0; dir = 0 }, u.0) in
     let f1 = read_field_sound (nodes - 1) w f.1 f.0 field1 in
     let f2 = read_field_sound (nodes - 1) f.1 t.1 t.0 field2 in
     let f3 = read_field_sound MAX t.1 r.1 r.0 field3 in
@@ -288,6 +306,7 @@ read_arc_sound kind nodes text rest a e =
           some_cost = omega (arith, no_cost);
           most_cost = omega (arith, f4.0);
         };
+        no_direction = refl;
         load = f5.0;
       },
       read_word_sound (codes "arc") text w word ∙ ap (λ s. codes "arc" ++ s)
@@ -295,23 +314,23 @@ read_arc_sound kind nodes text rest a e =
           ∙ sym (append_assoc (codes "arc") (fields (f.0 ∷ t.0 ∷ r.0 ∷ c.0 ∷ units_field kind q)) rest),
     )
 
-pub read_arc_complete : (kind : CertificateKind) (nodes : ℕ) (a : CertArc) (rest : List ℕ) → nodes ≤ CERT_NODES_MAX → IsGoodLine kind nodes a → read_arc kind nodes (load_line kind a ++ rest) ≡ Some (a, rest)
+pub read_arc_complete : (kind : CertificateKind) (nodes : ℕ) (a : Arc × ℕ) (rest : List ℕ) → nodes ≤ CERT_NODES_MAX → IsGoodLine kind nodes a → read_arc kind nodes (load_line kind a ++ rest) ≡ Some (a, rest)
 unfolding read_arc arc_line
 read_arc_complete kind nodes a rest few good =
     let ends : nodes - 1 < 10 ^ 19 = omega (arith, few) in
     let arc = good.good in
     rw (
-      append_assoc (codes "arc") (fields (a.from ∷ a.to ∷ a.room ∷ a.cost ∷ units_field kind a)) rest,
-      read_word_complete (codes "arc") (fields (a.from ∷ a.to ∷ a.room ∷ a.cost ∷ units_field kind a) ++ rest),
-      read_field_complete (nodes - 1) a.from _ rest good.from_in ends,
-      read_field_complete (nodes - 1) a.to _ rest good.to_in ends,
-      read_field_complete MAX a.room _ rest arc.most_room (omega arith),
-      read_field_complete COST_MAX a.cost _ rest (omega (arith, arc.most_cost)) (omega arith),
+      append_assoc (codes "arc") (fields (a.0.from ∷ a.0.to ∷ a.0.room ∷ a.0.cost ∷ units_field kind a)) rest,
+      read_word_complete (codes "arc") (fields (a.0.from ∷ a.0.to ∷ a.0.room ∷ a.0.cost ∷ units_field kind a) ++ rest),
+      read_field_complete (nodes - 1) a.0.from _ rest good.from_in ends,
+      read_field_complete (nodes - 1) a.0.to _ rest good.to_in ends,
+      read_field_complete MAX a.0.room _ rest arc.most_room (omega arith),
+      read_field_complete COST_MAX a.0.cost _ rest (omega (arith, arc.most_cost)) (omega arith),
       read_units_complete kind a rest good.load,
-      ne_eqb a.from a.to arc.apart,
-      ne_eqb a.room 0 (λ e. omega (arith, arc.some_room, e)),
-      ne_eqb a.cost 0 (λ e. omega (arith, arc.some_cost, e)),
-    ) refl
+      ne_eqb a.0.from a.0.to arc.apart,
+      ne_eqb a.0.room 0 (λ e. omega (arith, arc.some_room, e)),
+      ne_eqb a.0.cost 0 (λ e. omega (arith, arc.some_cost, e)),
+    ) (ap (λ d. Some ((record a.0 { dir = d }, a.1), rest)) (sym good.no_direction))
 
 pub good_problem : (text rest : List ℕ) (p : Problem) → Some (p, rest) ≡ read_problem text → IsGoodProblem p
 good_problem text rest p e = (read_problem_sound text rest p (sym e)).0

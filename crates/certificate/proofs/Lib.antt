@@ -2,9 +2,11 @@ pub mod Decimals
 pub mod Written
 pub mod Chains
 pub mod Words
+pub mod Loads
 pub mod Grammar
 pub mod Outcomes
 pub mod ManyLines
+pub mod Parts
 pub mod Nodes
 pub mod Bodies
 pub mod Shapes

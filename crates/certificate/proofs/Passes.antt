@@ -6,7 +6,6 @@ use Rattle.std.proofs.lemmas.Bool.{cases_eq, eq-eqb, ne_eqb, le-ltb, ltb-true, l
 use Rattle.std.proofs.lemmas.Bool.Decides.{Decides-int_eq}
 use Rattle.std.proofs.lemmas.Int.{ints}
 use Rattle.std.proofs.lemmas.List.{length-map}
-use Rattle.std.proofs.lemmas.List.Sums.{sum_by-cons}
 use Rattle.std.proofs.lemmas.List.Elements.{All-weaker}
 use Rattle.flow_model.specs.declared.instance.Arc.{Arc}
 use Rattle.flow_model.specs.Instance.{Net, IsNet}
@@ -18,6 +17,7 @@ use Rattle.certificate.specs.declared.verdict.Verdict.TheVariants.{Cheapest, NoF
 use Rattle.certificate.specs.Certificate.{without_directions}
 use Rattle.certificate.specs.Check.{due, is_over, is_uneven, is_uneven_balance, is_missed, gains, loses, first_below, no_at, flow_verdict}
 use Rattle.certificate.specs.Laws.{ShownPasses, CutPasses}
+use Rattle.certificate.proofs.Loads.{sum_map}
 use Rattle.certificate.proofs.Found.{below_same, below_none, position_none, position-map}
 
 -- without directions the verdict is the same
@@ -32,10 +32,6 @@ bare_loads : (arcs : List Arc) (flow : List ℕ) → zip (map bare_arc arcs) flo
 bare_loads [] flow = refl
 bare_loads (a ∷ arcs) [] = refl
 bare_loads (a ∷ arcs) (n ∷ flow) = ap (λ ls. bare (a, n) ∷ ls) (bare_loads arcs flow)
-
-sum_map : {X Y : Type 0} (w : Y → ℕ) (f : X → Y) (xs : List X) → sum_by w (map f xs) ≡ sum_by (λ x. w (f x)) xs
-sum_map w f [] = refl
-sum_map w f (x ∷ xs) = omega (arith, sum_by-cons w (f x) (map f xs), sum_by-cons (λ y. w (f y)) x xs, sum_map w f xs)
 
 module _ (net : Net) (flow : List ℕ) (p : List ℤ) where
   sum_same : (w : Arc × ℕ → ℕ) → sum_by w (loads (without_directions net) flow) ≡ sum_by (λ l. w (bare l)) (loads net flow)

@@ -68,18 +68,20 @@ erase a = record a { dir = 0 }
 -- what is printed is a certificate
 pub printed : (net : Net) (answer : Solved) → IsInstance net → net.nodes ≤ CERT_NODES_MAX → length net.arcs ≤ CERT_ARCS_MAX → IsAnswerFor net answer → IsCertificate (record { net = without_directions net; answer = answer })
 printed net answer good nodes arcs fits = record {
-  ends = record {
-    source_in = good.ends.source_in;
-    destination_in = good.ends.destination_in;
-    apart = good.ends.apart;
-    froms = All-map (λ a. a.from < net.nodes) erase net.arcs good.ends.froms;
-    tos = All-map (λ a. a.to < net.nodes) erase net.arcs good.ends.tos;
+  ranges = record {
+    ends = record {
+      source_in = good.ranges.ends.source_in;
+      destination_in = good.ranges.ends.destination_in;
+      apart = good.ranges.ends.apart;
+      froms = All-map (λ a. a.from < net.nodes) erase net.arcs good.ranges.ends.froms;
+      tos = All-map (λ a. a.to < net.nodes) erase net.arcs good.ranges.ends.tos;
+    };
+    few_nodes = nodes;
+    few_arcs = omega (arith, length-map net.arcs erase, arcs);
+    some_demand = good.ranges.some_demand;
+    most_demand = good.ranges.most_demand;
+    good_arcs = All-map IsGoodArc erase net.arcs (All-weaker IsGoodArc (λ a. IsGoodArc (erase a)) (λ a h. record { apart = h.apart; some_room = h.some_room; most_room = h.most_room; some_cost = h.some_cost; most_cost = h.most_cost }) net.arcs good.ranges.good_arcs);
   };
-  few_nodes = nodes;
-  few_arcs = omega (arith, length-map net.arcs erase, arcs);
-  some_demand = good.some_demand;
-  most_demand = good.most_demand;
-  good_arcs = All-map IsGoodArc erase net.arcs (All-weaker IsGoodArc (λ a. IsGoodArc (erase a)) (λ a h. record { apart = h.apart; some_room = h.some_room; most_room = h.most_room; some_cost = h.some_cost; most_cost = h.most_cost }) net.arcs good.good_arcs);
   no_direction = All-map (λ a. a.dir ≡ 0) erase net.arcs (λ k d l. refl);
   answer = again answer fits;
 }

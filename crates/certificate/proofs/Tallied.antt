@@ -1,13 +1,13 @@
 -- The balances of nodes, kept while the arcs are gone through.
 use Rattle.std.proofs.Common.{ℕ, ◌+◌, ◌*◌, ◌<◌, ◌≤◌, ◌≡◌, ◌^◌, Bool, true, false, cond, List, sym, ap, ◌∙◌, subst, ⊎_elim, arith, length}
-use Rattle.std.specs.Prelude.{take, set, nat_eq, slice_index_or, pos, ℤ, ◌+ℤ◌, ◌-ℤ◌, ◌≤ℤ◌}
+use Rattle.std.specs.Prelude.{All, take, set, nat_eq, slice_index_or, pos, ℤ, ◌+ℤ◌, ◌-ℤ◌, ◌≤ℤ◌}
 use Rattle.std.proofs.lemmas.Bool.{cases_eq}
 use Rattle.std.proofs.lemmas.List.{get_or-set_same, get_or-set_other, take_all}
 use Rattle.std.proofs.lemmas.List.Sums.{sum_by_more}
 use Rattle.std.proofs.lemmas.Int.{ints}
 use lib.ListN.{length-set}
 use Rattle.flow_model.proofs.Balance.{at_node, at_node-same, at_node-other}
-use Rattle.certificate.specs.declared.cert.CertArc.{CertArc}
+use Rattle.flow_model.specs.declared.instance.Arc.{Arc}
 use Rattle.certificate.specs.Cert.{Tallies}
 
 -- each balance is within n times 2^64
@@ -46,24 +46,30 @@ small_at u x v = at (nat_eq u v)
 near_more : (sums : List ℤ) (i u w x : ℕ) → u < length sums → w < length sums → x < 2 ^ 64 → Near i sums → Near (i + 1) (moved sums u w x)
 near_more sums i u w x lu lw small near v = let h = moved_at sums u w x v lu lw in let n = near v in (omega (arith, ints, h, n.0, small_at u x v), omega (arith, ints, h, n.1, small_at w x v))
 
-tally_more : (arcs : List CertArc) (nodes : ℕ) (sums : List ℤ) (i : ℕ) (a : CertArc) → i < length arcs → (slice_index_or arcs i a).from < nodes → (slice_index_or arcs i a).to < nodes → Tallies nodes sums (take i arcs) → Tallies nodes (moved sums (slice_index_or arcs i a).from (slice_index_or arcs i a).to (slice_index_or arcs i a).units) (take (i + 1) arcs)
-tally_more arcs nodes sums i a l lf lt old =
-    let arc = slice_index_or arcs i a in
-    let mid = set sums arc.from (slice_index_or sums arc.from (pos 0) +ℤ pos arc.units) in
-    record {
-      long = length-set mid arc.to (slice_index_or mid arc.to (pos 0) -ℤ pos arc.units) ∙ length-set sums arc.from (slice_index_or sums arc.from (pos 0) +ℤ pos arc.units) ∙ old.long;
-      each = λ v k. let h = moved_at sums arc.from arc.to arc.units v (omega (arith, old.long)) (omega (arith, old.long)) in
-          let out = sum_by_more (λ (b : CertArc). at_node b.from b.units v) arcs i a l in
-          let in' = sum_by_more (λ (b : CertArc). at_node b.to b.units v) arcs i a l in
-          omega (arith, ints, h, out, in', old.each v k);
-    }
-
 -- a turn of the loop over the arcs
-pub tally_turn : (arcs : List CertArc) (nodes : ℕ) (sums mid new : List ℤ) (i : ℕ) (a : CertArc) → i < length arcs → (slice_index_or arcs i a).from < nodes → (slice_index_or arcs i a).to < nodes → mid ≡ set sums (slice_index_or arcs i a).from (slice_index_or sums (slice_index_or arcs i a).from (pos 0) +ℤ pos (slice_index_or arcs i a).units) → new ≡ set mid (slice_index_or arcs i a).to (slice_index_or mid (slice_index_or arcs i a).to (pos 0) -ℤ pos (slice_index_or arcs i a).units) → (slice_index_or arcs i a).units < 2 ^ 64 → Tallies nodes sums (take i arcs) → Near i sums → Tallies nodes new (take (i + 1) arcs) × Near (i + 1) new
-tally_turn arcs nodes sums mid new i a l lf lt r w fits old near =
-    let arc = slice_index_or arcs i a in
-    let e : new ≡ moved sums arc.from arc.to arc.units = w ∙ ap (λ (m : List ℤ). set m arc.to (slice_index_or m arc.to (pos 0) -ℤ pos arc.units)) r in
-    (subst (λ m. Tallies nodes m (take (i + 1) arcs)) (sym e) (tally_more arcs nodes sums i a l lf lt old), subst (Near (i + 1)) (sym e) (near_more sums i arc.from arc.to arc.units (omega (arith, old.long)) (omega (arith, old.long)) fits near))
+module _ (loads : List (Arc × ℕ)) (nodes : ℕ) (sums : List ℤ) (i : ℕ) (load d : Arc × ℕ) (l : i < length loads) (e : load ≡ slice_index_or loads i d) (froms : All (λ (m : Arc × ℕ). m.0.from < nodes) loads) (tos : All (λ (m : Arc × ℕ). m.0.to < nodes) loads) (old : Tallies nodes sums (take i loads)) where
+  from_in : load.0.from < length sums
+  from_in = let h = subst (λ (m : Arc × ℕ). m.0.from < nodes) (sym e) (froms i d l) in omega (arith, h, old.long)
 
-pub tally_all : (arcs : List CertArc) (nodes : ℕ) (sums : List ℤ) (i : ℕ) → length arcs ≤ i → Tallies nodes sums (take i arcs) → Tallies nodes sums arcs
-tally_all arcs nodes sums i l old = subst (Tallies nodes sums) (take_all i arcs l) old
+  to_in : load.0.to < length sums
+  to_in = let h = subst (λ (m : Arc × ℕ). m.0.to < nodes) (sym e) (tos i d l) in omega (arith, h, old.long)
+
+  tally_more : Tallies nodes (moved sums load.0.from load.0.to load.1) (take (i + 1) loads)
+  tally_more =
+      let mid = set sums load.0.from (slice_index_or sums load.0.from (pos 0) +ℤ pos load.1) in
+      record {
+        long = length-set mid load.0.to (slice_index_or mid load.0.to (pos 0) -ℤ pos load.1) ∙ length-set sums load.0.from (slice_index_or sums load.0.from (pos 0) +ℤ pos load.1) ∙ old.long;
+        each = λ v k.
+            let h = moved_at sums load.0.from load.0.to load.1 v from_in to_in in
+            let out = sum_by_more (λ (b : Arc × ℕ). at_node b.0.from b.1 v) loads i d l in
+            let in' = sum_by_more (λ (b : Arc × ℕ). at_node b.0.to b.1 v) loads i d l in
+            omega (arith, ints, h, out, in', ap (λ (b : Arc × ℕ). at_node b.0.from b.1 v) e, ap (λ (b : Arc × ℕ). at_node b.0.to b.1 v) e, old.each v k);
+      }
+
+  pub tally_turn : (mid new : List ℤ) → mid ≡ set sums load.0.from (slice_index_or sums load.0.from (pos 0) +ℤ pos load.1) → new ≡ set mid load.0.to (slice_index_or mid load.0.to (pos 0) -ℤ pos load.1) → load.1 < 2 ^ 64 → Near i sums → Tallies nodes new (take (i + 1) loads) × Near (i + 1) new
+  tally_turn mid new r w fits near =
+      let same : new ≡ moved sums load.0.from load.0.to load.1 = w ∙ ap (λ (m : List ℤ). set m load.0.to (slice_index_or m load.0.to (pos 0) -ℤ pos load.1)) r in
+      (subst (λ m. Tallies nodes m (take (i + 1) loads)) (sym same) tally_more, subst (Near (i + 1)) (sym same) (near_more sums i load.0.from load.0.to load.1 from_in to_in fits near))
+
+pub tally_all : (loads : List (Arc × ℕ)) (nodes : ℕ) (sums : List ℤ) (i : ℕ) → length loads ≤ i → Tallies nodes sums (take i loads) → Tallies nodes sums loads
+tally_all loads nodes sums i l old = subst (Tallies nodes sums) (take_all i loads l) old

@@ -1,5 +1,5 @@
 -- Whole texts: what is read is the one certificate with that text, and a fault is the first line that is in none.
-use Rattle.std.proofs.Common.{ℕ, zero, suc, ◌+◌, ◌-◌, ◌<◌, ◌≤◌, ◌≡◌, List, [], ◌∷◌, ◌++◌, length, take, Option, Some, Ok, Err, refl, sym, ap, ◌∙◌, subst, arith, append_assoc}
+use Rattle.std.proofs.Common.{ℕ, zero, suc, ◌+◌, ◌-◌, ◌<◌, ◌≤◌, ◌≡◌, List, [], ◌∷◌, ◌++◌, length, take, Ok, Err, refl, sym, ap, ◌∙◌, subst, arith, append_assoc}
 use Rattle.std.specs.Prelude.{ℤ, Bool, All, pos, false}
 use Rattle.std.specs.List.{concat}
 use Rattle.std.proofs.lemmas.List.{append-nil}
@@ -9,7 +9,7 @@ use Rattle.flow_model.specs.Instance.{Net}
 use Rattle.flow_model.specs.Potentials.{IsSmall}
 use Rattle.std.proofs.lemmas.List.Elements.{All-nil, All-cons, All-weaker}
 use Rattle.std.proofs.lemmas.Int.{ints}
-use Rattle.certificate.specs.declared.cert.CertArc.{CertArc}
+use Rattle.flow_model.specs.declared.instance.Arc.{Arc}
 use Rattle.certificate.specs.declared.problem.Problem.{Problem}
 use Rattle.certificate.specs.declared.problem.CertificateKind.{CertificateKind}
 use Rattle.certificate.specs.declared.problem.CertificateKind.TheVariants as Kinds
@@ -20,9 +20,9 @@ use Rattle.certificate.specs.Laws.{TextIsReadBack}
 use Rattle.certificate.specs.Reading.{read_text, read_head, read_kind, read_problem, read_body, read_potential, read_side, read_lines, read_arc, read_answer, then_read, or_line}
 use Rattle.certificate.specs.Cert.{IsGoodProblem, net_of}
 use Rattle.certificate.proofs.Outcomes.{ok-err, same_Ok, then_ok, then_err, or_line_ok, or_line_err}
-use Rattle.certificate.proofs.Grammar.{IsGoodLine, load_line, read_arc_sound, read_arc_complete, kind_word, problem_fields, read_head_sound, read_head_complete, read_kind_sound, read_kind_complete, read_problem_sound, read_problem_complete, read_potential_sound, read_potential_complete, read_side_sound, read_side_complete}
-use Rattle.certificate.proofs.ManyLines.{lines_sound}
-use Rattle.certificate.proofs.Bodies.{body_lines, IsBody, read_parts, body_sound, body_complete, body_failed, body_later}
+use Rattle.certificate.proofs.Grammar.{IsGoodLine, kind_word, problem_fields, read_head_sound, read_head_complete, read_kind_sound, read_kind_complete, read_problem_sound, read_problem_complete, read_potential_sound, read_potential_complete, read_side_sound, read_side_complete}
+use Rattle.certificate.proofs.ManyLines.{Form, lines_sound}
+use Rattle.certificate.proofs.Bodies.{load_form, body_lines, IsBody, read_parts, body}
 use Rattle.certificate.proofs.Shapes.{flow_cert, cut_cert, IsAnyBool, flow_lines, cut_lines, read_flow, read_cut, flow_is_certificate, cut_is_certificate, flow_form, cut_form}
 
 abbrev behind_head : CertificateKind → Problem → List ℕ → List ℕ
@@ -38,61 +38,69 @@ front_read kind p text good =
     ∙ ap (λ o. then_read third (or_line 2 o)) (read_kind_complete kind (problem_fields p ++ text))
     ∙ ap (λ o. then_read (λ (q : Problem × List ℕ). read_body kind q.0 q.1) (or_line 2 o)) (read_problem_complete p text good)
 
-module _ {B : Type 0} (read : List ℕ → Option (B × List ℕ)) (line : B → List ℕ) (Good : B → Type 0) (sound : (text rest : List ℕ) (x : B) → read text ≡ Some (x, rest) → Good x × (text ≡ line x ++ rest)) (complete : (x : B) (rest : List ℕ) → Good x → read (line x ++ rest) ≡ Some (x, rest)) (filler : B) (filler_good : Good filler) (kind : CertificateKind) (make : Problem → List CertArc → List B → Certificate) (lines : (p : Problem) (arcs : List CertArc) (bs : List B) → length arcs ≡ p.arcs → certificate_lines (make p arcs bs) ≡ head_line ∷ (kind_word kind ++ problem_fields p) ∷ body_lines kind line arcs bs) (reads : (p : Problem) (text : List ℕ) → read_body kind p text ≡ then_read (λ q. Ok (make p q.0 q.1)) (read_parts kind read p text)) (certifies : (p : Problem) (arcs : List CertArc) (bs : List B) → IsGoodProblem p → IsBody kind Good p arcs bs → IsCertificate (make p arcs bs)) where
+-- certificates of one kind, with items of one form for each node
+record Shape {B : Type 0} (form : Form B) (kind : CertificateKind) : Type 0 where
+  make : Problem → List (Arc × ℕ) → List B → Certificate
+  lines : (p : Problem) (arcs : List (Arc × ℕ)) (bs : List B) → length arcs ≡ p.arcs → certificate_lines (make p arcs bs) ≡ head_line ∷ (kind_word kind ++ problem_fields p) ∷ body_lines kind form.line arcs bs
+  reads : (p : Problem) (text : List ℕ) → read_body kind p text ≡ then_read (λ q. Ok (make p q.0 q.1)) (read_parts kind form.read p 3 text)
+  certifies : (p : Problem) (arcs : List (Arc × ℕ)) (bs : List B) → IsGoodProblem p → IsBody kind form.Good p arcs bs → IsCertificate (make p arcs bs)
+
+module _ {B : Type 0} (form : Form B) (kind : CertificateKind) (shape : Shape form kind) where
   -- the first lines of such a certificate
-  first_lines : (p : Problem) (arcs : List CertArc) (bs : List B) (k : ℕ) → length arcs ≡ p.arcs → concat (take (2 + k) (certificate_lines (make p arcs bs))) ≡ head_line ++ behind_head kind p (concat (take k (body_lines kind line arcs bs)))
+  first_lines : (p : Problem) (arcs : List (Arc × ℕ)) (bs : List B) (k : ℕ) → length arcs ≡ p.arcs → concat (take (2 + k) (certificate_lines (shape.make p arcs bs))) ≡ head_line ++ behind_head kind p (concat (take k (body_lines kind form.line arcs bs)))
   first_lines p arcs bs k long =
       let n : 2 + k ≡ suc (suc k) = omega arith in
-      let body = take k (body_lines kind line arcs bs) in
-      ap (λ ls. concat (take (2 + k) ls)) (lines p arcs bs long)
-      ∙ ap (λ j. concat (take j (head_line ∷ (kind_word kind ++ problem_fields p) ∷ body_lines kind line arcs bs))) n
+      let body = take k (body_lines kind form.line arcs bs) in
+      ap (λ ls. concat (take (2 + k) ls)) (shape.lines p arcs bs long)
+      ∙ ap (λ j. concat (take j (head_line ∷ (kind_word kind ++ problem_fields p) ∷ body_lines kind form.line arcs bs))) n
       ∙ ap (λ w. head_line ++ w) (append_assoc (kind_word kind) (problem_fields p) (concat body))
 
-  length-lines : (p : Problem) (arcs : List CertArc) (bs : List B) → length arcs ≡ p.arcs → length (certificate_lines (make p arcs bs)) ≡ 2 + length (body_lines kind line arcs bs)
-  length-lines p arcs bs long = ap length (lines p arcs bs long) ∙ omega arith
+  length-lines : (p : Problem) (arcs : List (Arc × ℕ)) (bs : List B) → length arcs ≡ p.arcs → length (certificate_lines (shape.make p arcs bs)) ≡ 2 + length (body_lines kind form.line arcs bs)
+  length-lines p arcs bs long = ap length (shape.lines p arcs bs long) ∙ omega arith
 
   -- the text of such a certificate
-  pub whole : (p : Problem) (arcs : List CertArc) (bs : List B) → length arcs ≡ p.arcs → certificate_text (make p arcs bs) ≡ head_line ++ behind_head kind p (concat (body_lines kind line arcs bs))
-  whole p arcs bs long = ap concat (lines p arcs bs long) ∙ ap (λ w. head_line ++ w) (append_assoc (kind_word kind) (problem_fields p) (concat (body_lines kind line arcs bs)))
+  whole : (p : Problem) (arcs : List (Arc × ℕ)) (bs : List B) → length arcs ≡ p.arcs → certificate_text (shape.make p arcs bs) ≡ head_line ++ behind_head kind p (concat (body_lines kind form.line arcs bs))
+  whole p arcs bs long = ap concat (shape.lines p arcs bs long) ∙ ap (λ w. head_line ++ w) (append_assoc (kind_word kind) (problem_fields p) (concat (body_lines kind form.line arcs bs)))
 
-  pub form_complete : (p : Problem) (arcs : List CertArc) (bs : List B) → IsGoodProblem p → IsBody kind Good p arcs bs → read_text (certificate_text (make p arcs bs)) ≡ Ok (make p arcs bs)
-  form_complete p arcs bs good body =
-      ap read_text (whole p arcs bs body.arcs_long)
-      ∙ front_read kind p (concat (body_lines kind line arcs bs)) good
-      ∙ reads p (concat (body_lines kind line arcs bs))
-      ∙ ap (then_read (λ q. Ok (make p q.0 q.1))) (body_complete read line Good sound complete filler filler_good kind p good arcs bs body)
+  form_complete : (p : Problem) (arcs : List (Arc × ℕ)) (bs : List B) → IsGoodProblem p → IsBody kind form.Good p arcs bs → read_text (certificate_text (shape.make p arcs bs)) ≡ Ok (shape.make p arcs bs)
+  form_complete p arcs bs good is =
+      ap read_text (whole p arcs bs is.0)
+      ∙ front_read kind p (concat (body_lines kind form.line arcs bs)) good
+      ∙ shape.reads p (concat (body_lines kind form.line arcs bs))
+      ∙ ap (then_read (λ q. Ok (shape.make p q.0 q.1))) ((body form kind p good).complete 3 (arcs, bs) is)
 
-  pub form_sound : (p : Problem) (text : List ℕ) (c : Certificate) → IsGoodProblem p → read_body kind p text ≡ Ok c → IsCertificate c × (certificate_text c ≡ head_line ++ behind_head kind p text)
+  form_sound : (p : Problem) (text : List ℕ) (c : Certificate) → IsGoodProblem p → read_body kind p text ≡ Ok c → IsCertificate c × (certificate_text c ≡ head_line ++ behind_head kind p text)
   form_sound p text c good e =
-      then_ok (λ q. Ok (make p q.0 q.1)) (read_parts kind read p text) c (sym (reads p text) ∙ e) λ q were f.
-      let same = same_Ok (make p q.0 q.1) c f in
-      let h = body_sound read line Good sound complete filler filler_good kind p good text q.0 q.1 were in
+      then_ok (λ q. Ok (shape.make p q.0 q.1)) (read_parts kind form.read p 3 text) c (sym (shape.reads p text) ∙ e) λ q were f.
+      let same = same_Ok (shape.make p q.0 q.1) c f in
+      let h = (body form kind p good).sound 3 text q were in
       subst (λ d. IsCertificate d × (certificate_text d ≡ head_line ++ behind_head kind p text)) same
-      (certifies p q.0 q.1 good h.0, whole p q.0 q.1 h.0.arcs_long ∙ ap (λ t. head_line ++ behind_head kind p t) (sym h.1))
+      (shape.certifies p q.0 q.1 good h.0, whole p q.0 q.1 h.0.0 ∙ ap (λ t. head_line ++ behind_head kind p t) (sym h.1))
 
-  pub form_failed : (p : Problem) (text : List ℕ) (m : ℕ) → IsGoodProblem p → read_body kind p text ≡ Err m → (3 ≤ m) × ((c : Certificate) × (IsCertificate c × BeginsLike c (m - 1) (head_line ++ behind_head kind p text)))
+  form_failed : (p : Problem) (text : List ℕ) (m : ℕ) → IsGoodProblem p → read_body kind p text ≡ Err m → (3 ≤ m) × ((c : Certificate) × (IsCertificate c × BeginsLike c (m - 1) (head_line ++ behind_head kind p text)))
   form_failed p text m good e =
-      then_err (λ q. Ok (make p q.0 q.1)) (read_parts kind read p text) m (sym (reads p text) ∙ e)
+      then_err (λ q. Ok (shape.make p q.0 q.1)) (read_parts kind form.read p 3 text) m (sym (shape.reads p text) ∙ e)
       (λ here.
-      let (arcs, bs, k, after, body, few, stands, place) = body_failed read line Good sound complete filler filler_good kind p good text m here in
+      let (z, k, after, is, few, stands, place) = (body form kind p good).failed 3 m text here in
+      let (arcs, bs) = z in
       let at : m - 1 ≡ 2 + k = omega (arith, place) in
-      let c = make p arcs bs in
-      let front = concat (take k (body_lines kind line arcs bs)) in
+      let c = shape.make p arcs bs in
+      let front = concat (take k (body_lines kind form.line arcs bs)) in
       let begins : head_line ++ behind_head kind p text ≡ concat (take (2 + k) (certificate_lines c)) ++ after =
       ap (λ t. head_line ++ behind_head kind p t) stands
       ∙ spread kind p front after
-      ∙ ap (λ w. w ++ after) (sym (first_lines p arcs bs k body.arcs_long)) in (
+      ∙ ap (λ w. w ++ after) (sym (first_lines p arcs bs k is.0)) in (
         (omega (arith, place)),
         (
           c,
           (
-            certifies p arcs bs good body,
+            shape.certifies p arcs bs good is,
             subst (λ j. BeginsLike c j (head_line ++ behind_head kind p text)) (sym at)
-                (omega (arith, few, length-lines p arcs bs body.arcs_long), (after, begins)),
+                (omega (arith, few, length-lines p arcs bs is.0), (after, begins)),
           ),
         ),
       ))
-      (λ q were f. absurd (ok-err (make p q.0 q.1) m f))
+      (λ q were f. absurd (ok-err (shape.make p q.0 q.1) m f))
     where
       spread : (k : CertificateKind) (p : Problem) (front after : List ℕ) → head_line ++ behind_head k p (front ++ after) ≡ head_line ++ behind_head k p front ++ after
       spread k p front after =
@@ -103,35 +111,41 @@ module _ {B : Type 0} (read : List ℕ → Option (B × List ℕ)) (line : B →
 zero_small : IsSmall (pos 0)
 zero_small = (omega (arith, ints), omega (arith, ints))
 
-any_side : (text rest : List ℕ) (b : Bool) → read_side text ≡ Some (b, rest) → IsAnyBool b × (text ≡ side_line b ++ rest)
-any_side text rest b e = (tt, read_side_sound text rest b e)
+abbrev potential_form : Form ℤ
+potential_form = record { read = read_potential; line = potential_line; Good = IsSmall; sound = read_potential_sound; complete = read_potential_complete; filler = pos 0; filler_good = zero_small }
 
-side_again : (b : Bool) (rest : List ℕ) → IsAnyBool b → read_side (side_line b ++ rest) ≡ Some (b, rest)
-side_again b rest _ = read_side_complete b rest
+abbrev side_form : Form Bool
+side_form = record { read = read_side; line = side_line; Good = IsAnyBool; sound = λ text rest b e. (tt, read_side_sound text rest b e); complete = λ b rest _. read_side_complete b rest; filler = false; filler_good = tt }
+
+abbrev flow_shape : Shape potential_form Kinds.Flow
+flow_shape = record { make = flow_cert; lines = flow_lines; reads = read_flow; certifies = flow_is_certificate }
+
+abbrev cut_shape : Shape side_form Kinds.Cut
+cut_shape = record { make = cut_cert; lines = cut_lines; reads = read_cut; certifies = cut_is_certificate }
 
 -- a body that isn't read
 body_failed_at : (kind : CertificateKind) (p : Problem) (text : List ℕ) (m : ℕ) → IsGoodProblem p → read_body kind p text ≡ Err m → (3 ≤ m) × ((c : Certificate) × (IsCertificate c × BeginsLike c (m - 1) (head_line ++ behind_head kind p text)))
-body_failed_at Kinds.Flow = form_failed read_potential potential_line IsSmall read_potential_sound read_potential_complete (pos 0) zero_small Kinds.Flow flow_cert flow_lines read_flow flow_is_certificate
-body_failed_at Kinds.Cut = form_failed read_side side_line IsAnyBool any_side side_again false tt Kinds.Cut cut_cert cut_lines read_cut cut_is_certificate
+body_failed_at Kinds.Flow = form_failed potential_form Kinds.Flow flow_shape
+body_failed_at Kinds.Cut = form_failed side_form Kinds.Cut cut_shape
 
 body_sound_at : (kind : CertificateKind) (p : Problem) (text : List ℕ) (c : Certificate) → IsGoodProblem p → read_body kind p text ≡ Ok c → IsCertificate c × (certificate_text c ≡ head_line ++ behind_head kind p text)
-body_sound_at Kinds.Flow = form_sound read_potential potential_line IsSmall read_potential_sound read_potential_complete (pos 0) zero_small Kinds.Flow flow_cert flow_lines read_flow flow_is_certificate
-body_sound_at Kinds.Cut = form_sound read_side side_line IsAnyBool any_side side_again false tt Kinds.Cut cut_cert cut_lines read_cut cut_is_certificate
+body_sound_at Kinds.Flow = form_sound potential_form Kinds.Flow flow_shape
+body_sound_at Kinds.Cut = form_sound side_form Kinds.Cut cut_shape
 
 -- the arcs that were read, and the certificate that they and the answer make
-pub arcs_read : (kind : CertificateKind) (p : Problem) (text rest : List ℕ) (arcs : List CertArc) → IsGoodProblem p → read_lines (read_arc kind p.nodes) p.arcs 3 text ≡ Ok (arcs, rest) → (length arcs ≡ p.arcs) × All (λ a. a.from < p.nodes) arcs × All (λ a. a.to < p.nodes) arcs
+pub arcs_read : (kind : CertificateKind) (p : Problem) (text rest : List ℕ) (arcs : List (Arc × ℕ)) → IsGoodProblem p → read_lines (read_arc kind p.nodes) p.arcs 3 text ≡ Ok (arcs, rest) → (length arcs ≡ p.arcs) × All (λ (l : Arc × ℕ). l.0.from < p.nodes) arcs × All (λ (l : Arc × ℕ). l.0.to < p.nodes) arcs
 arcs_read kind p text rest arcs good e =
-    let h = lines_sound (read_arc kind p.nodes) (load_line kind) (IsGoodLine kind p.nodes) (read_arc_sound kind p.nodes) (λ a r. read_arc_complete kind p.nodes a r good.few_nodes) p.arcs 3 text rest arcs e in (
+    let h = lines_sound (load_form kind p good) p.arcs 3 text rest arcs e in (
       h.0,
-      All-weaker (IsGoodLine kind p.nodes) (λ a. a.from < p.nodes) (λ a l. omega (arith, l.from_in, good.some_nodes)) arcs h.1,
-      All-weaker (IsGoodLine kind p.nodes) (λ a. a.to < p.nodes) (λ a l. omega (arith, l.to_in, good.some_nodes)) arcs h.1,
+      All-weaker (IsGoodLine kind p.nodes) (λ (l : Arc × ℕ). l.0.from < p.nodes) (λ a l. omega (arith, l.from_in, good.ranges.ends.source_in)) arcs h.1,
+      All-weaker (IsGoodLine kind p.nodes) (λ (l : Arc × ℕ). l.0.to < p.nodes) (λ a l. omega (arith, l.to_in, good.ranges.ends.source_in)) arcs h.1,
     )
 
-pub body_read : (kind : CertificateKind) (p : Problem) (text rest : List ℕ) (arcs : List CertArc) (answer : Solved) → IsGoodProblem p → read_lines (read_arc kind p.nodes) p.arcs 3 text ≡ Ok (arcs, rest) → read_answer kind p.nodes arcs (3 + p.arcs) rest ≡ Ok answer → IsCertificate (record { net = net_of p arcs; answer = answer })
+pub body_read : (kind : CertificateKind) (p : Problem) (text rest : List ℕ) (arcs : List (Arc × ℕ)) (answer : Solved) → IsGoodProblem p → read_lines (read_arc kind p.nodes) p.arcs 3 text ≡ Ok (arcs, rest) → read_answer kind p.nodes arcs (3 + p.arcs) rest ≡ Ok answer → IsCertificate (record { net = net_of p arcs; answer = answer })
 unfolding read_body
 body_read kind p text rest arcs answer good lines nodes =
     (body_sound_at kind p text (record { net = net_of p arcs; answer = answer }) good
-    (ap (then_read (λ (r : List CertArc × List ℕ). then_read (λ s. Ok (record { net = net_of p r.0; answer = s })) (read_answer kind p.nodes r.0 (3 + p.arcs) r.1))) lines
+    (ap (then_read (λ (r : List (Arc × ℕ) × List ℕ). then_read (λ s. Ok (record { net = net_of p r.0; answer = s })) (read_answer kind p.nodes r.0 (3 + p.arcs) r.1))) lines
     ∙ ap (then_read (λ s. Ok (record { net = net_of p arcs; answer = s }))) nodes)).0
 
 -- what was read before a body that isn't
@@ -181,28 +195,28 @@ err_behind_head text m e =
     (λ here. omega (arith, (or_line_err 2 m (read_problem k.1) here).1))
     (λ q numbers e3. omega (arith, (body_failed_at k.0 q.0 q.1 m (read_problem_sound k.1 q.1 q.0 (or_line_ok 2 (read_problem k.1) q numbers)).0 e3).0)))
 
-module _ {B : Type 0} (read : List ℕ → Option (B × List ℕ)) (line : B → List ℕ) (Good : B → Type 0) (sound : (text rest : List ℕ) (x : B) → read text ≡ Some (x, rest) → Good x × (text ≡ line x ++ rest)) (complete : (x : B) (rest : List ℕ) → Good x → read (line x ++ rest) ≡ Some (x, rest)) (filler : B) (filler_good : Good filler) (kind : CertificateKind) (make : Problem → List CertArc → List B → Certificate) (lines : (p : Problem) (arcs : List CertArc) (bs : List B) → length arcs ≡ p.arcs → certificate_lines (make p arcs bs) ≡ head_line ∷ (kind_word kind ++ problem_fields p) ∷ body_lines kind line arcs bs) (reads : (p : Problem) (text : List ℕ) → read_body kind p text ≡ then_read (λ q. Ok (make p q.0 q.1)) (read_parts kind read p text)) (certifies : (p : Problem) (arcs : List CertArc) (bs : List B) → IsGoodProblem p → IsBody kind Good p arcs bs → IsCertificate (make p arcs bs)) where
+module _ {B : Type 0} (form : Form B) (kind : CertificateKind) (shape : Shape form kind) where
   -- no failure is within the first lines of such a certificate
-  pub form_later : (p : Problem) (arcs : List CertArc) (bs : List B) (n m : ℕ) (text : List ℕ) → IsGoodProblem p → IsBody kind Good p arcs bs → BeginsLike (make p arcs bs) n text → read_text text ≡ Err m → n < m
-  form_later p arcs bs zero m text good body begins e = omega (arith, err_some text m e)
-  form_later p arcs bs (suc zero) m text good body begins e =
+  form_later : (p : Problem) (arcs : List (Arc × ℕ)) (bs : List B) (n m : ℕ) (text : List ℕ) → IsGoodProblem p → IsBody kind form.Good p arcs bs → BeginsLike (shape.make p arcs bs) n text → read_text text ≡ Err m → n < m
+  form_later p arcs bs zero m text good is begins e = omega (arith, err_some text m e)
+  form_later p arcs bs (suc zero) m text good is begins e =
       let (few, (after, stands)) = begins in
-      let one : concat (take 1 (certificate_lines (make p arcs bs))) ≡ head_line = ap (λ ls. concat (take 1 ls)) (lines p arcs bs body.arcs_long) ∙ append-nil head_line in
+      let one : concat (take 1 (certificate_lines (shape.make p arcs bs))) ≡ head_line = ap (λ ls. concat (take 1 ls)) (shape.lines p arcs bs is.0) ∙ append-nil head_line in
       let h = err_behind_head after m (ap read_text (sym (stands ∙ ap (λ w. w ++ after) one)) ∙ e) in
       omega (arith, h)
-  form_later p arcs bs (suc (suc k)) m text good body begins e =
+  form_later p arcs bs (suc (suc k)) m text good is begins e =
       let (few, (after, stands)) = begins in
       let n : suc (suc k) ≡ 2 + k = omega arith in
-      let front = concat (take k (body_lines kind line arcs bs)) in
+      let front = concat (take k (body_lines kind form.line arcs bs)) in
       let text_is : text ≡ head_line ++ behind_head kind p (front ++ after) =
       stands
-      ∙ ap (λ j. concat (take j (certificate_lines (make p arcs bs))) ++ after) n
-      ∙ ap (λ w. w ++ after) (first_lines read line Good sound complete filler filler_good kind make lines reads certifies p arcs bs k body.arcs_long)
+      ∙ ap (λ j. concat (take j (certificate_lines (shape.make p arcs bs))) ++ after) n
+      ∙ ap (λ w. w ++ after) (first_lines form kind shape p arcs bs k is.0)
       ∙ gather kind p front after in
       let body_err : read_body kind p (front ++ after) ≡ Err m = sym (front_read kind p (front ++ after) good) ∙ ap read_text (sym text_is) ∙ e in
-      then_err (λ q. Ok (make p q.0 q.1)) (read_parts kind read p (front ++ after)) m (sym (reads p (front ++ after)) ∙ body_err)
-      (λ here. let h = body_later read line Good sound complete filler filler_good kind p good arcs bs k m after body (omega (arith, few, length-lines read line Good sound complete filler filler_good kind make lines reads certifies p arcs bs body.arcs_long)) here in omega (arith, h))
-      (λ q were f. absurd (ok-err (make p q.0 q.1) m f))
+      then_err (λ q. Ok (shape.make p q.0 q.1)) (read_parts kind form.read p 3 (front ++ after)) m (sym (shape.reads p (front ++ after)) ∙ body_err)
+      (λ here. let h = (body form kind p good).later 3 m k (arcs, bs) after is (omega (arith, few, length-lines form kind shape p arcs bs is.0)) here in omega (arith, h))
+      (λ q were f. absurd (ok-err (shape.make p q.0 q.1) m f))
     where
       gather : (k : CertificateKind) (p : Problem) (front after : List ℕ) → head_line ++ behind_head k p front ++ after ≡ head_line ++ behind_head k p (front ++ after)
       gather k p front after =
@@ -212,11 +226,11 @@ module _ {B : Type 0} (read : List ℕ → Option (B × List ℕ)) (line : B →
 
 -- the whole of it
 
-later_flow : (p : Problem) (arcs : List CertArc) (ps : List ℤ) (n m : ℕ) (text : List ℕ) → IsGoodProblem p → IsBody Kinds.Flow IsSmall p arcs ps → BeginsLike (flow_cert p arcs ps) n text → read_text text ≡ Err m → n < m
-later_flow = form_later read_potential potential_line IsSmall read_potential_sound read_potential_complete (pos 0) zero_small Kinds.Flow flow_cert flow_lines read_flow flow_is_certificate
+later_flow : (p : Problem) (arcs : List (Arc × ℕ)) (ps : List ℤ) (n m : ℕ) (text : List ℕ) → IsGoodProblem p → IsBody Kinds.Flow IsSmall p arcs ps → BeginsLike (flow_cert p arcs ps) n text → read_text text ≡ Err m → n < m
+later_flow = form_later potential_form Kinds.Flow flow_shape
 
-later_cut : (p : Problem) (arcs : List CertArc) (side : List Bool) (n m : ℕ) (text : List ℕ) → IsGoodProblem p → IsBody Kinds.Cut IsAnyBool p arcs side → BeginsLike (cut_cert p arcs side) n text → read_text text ≡ Err m → n < m
-later_cut = form_later read_side side_line IsAnyBool any_side side_again false tt Kinds.Cut cut_cert cut_lines read_cut cut_is_certificate
+later_cut : (p : Problem) (arcs : List (Arc × ℕ)) (side : List Bool) (n m : ℕ) (text : List ℕ) → IsGoodProblem p → IsBody Kinds.Cut IsAnyBool p arcs side → BeginsLike (cut_cert p arcs side) n text → read_text text ≡ Err m → n < m
+later_cut = form_later side_form Kinds.Cut cut_shape
 
 later : (net : Net) (answer : Solved) (n m : ℕ) (text : List ℕ) → IsCertificate (record { net = net; answer = answer }) → BeginsLike (record { net = net; answer = answer }) n text → read_text text ≡ Err m → n < m
 later net (Flow flow ps) n m text c begins e =
@@ -229,10 +243,10 @@ later net (Cut side) n m text c begins e =
 complete_at : (net : Net) (answer : Solved) → IsCertificate (record { net = net; answer = answer }) → read_text (certificate_text (record { net = net; answer = answer })) ≡ Ok (record { net = net; answer = answer })
 complete_at net (Flow flow ps) c =
     let (p, arcs, form) = flow_form net flow ps c in
-    subst (λ d. read_text (certificate_text d) ≡ Ok d) form.same (form_complete read_potential potential_line IsSmall read_potential_sound read_potential_complete (pos 0) zero_small Kinds.Flow flow_cert flow_lines read_flow flow_is_certificate p arcs ps form.good form.body)
+    subst (λ d. read_text (certificate_text d) ≡ Ok d) form.same (form_complete potential_form Kinds.Flow flow_shape p arcs ps form.good form.body)
 complete_at net (Cut side) c =
     let (p, arcs, form) = cut_form net side c in
-    subst (λ d. read_text (certificate_text d) ≡ Ok d) form.same (form_complete read_side side_line IsAnyBool any_side side_again false tt Kinds.Cut cut_cert cut_lines read_cut cut_is_certificate p arcs side form.good form.body)
+    subst (λ d. read_text (certificate_text d) ≡ Ok d) form.same (form_complete side_form Kinds.Cut cut_shape p arcs side form.good form.body)
 
 -- a certificate's text is read as the certificate
 pub text_complete : (c : Certificate) → IsCertificate c → read_text (certificate_text c) ≡ Ok c
@@ -258,8 +272,18 @@ smallest = flow_cert (record { nodes = 2; arcs = 0; source = 0; destination = 1;
 smallest_good : IsCertificate smallest
 unfolding smallest
 smallest_good = flow_is_certificate (record { nodes = 2; arcs = 0; source = 0; destination = 1; demand = 1 }) [] (pos 0 ∷ pos 0 ∷ [])
-    record { some_nodes = omega arith; few_nodes = omega arith; few_arcs = omega arith; source_in = omega arith; destination_in = omega arith; apart = λ e. omega (arith, e); some_demand = omega arith; most_demand = omega arith }
-    record { arcs_long = refl; arcs_good = All-nil _; nodes_long = refl; nodes_good = All-cons IsSmall (pos 0) (pos 0 ∷ []) zero_small (All-cons IsSmall (pos 0) [] zero_small (All-nil IsSmall)) }
+    record {
+      ranges = record {
+        ends = record { source_in = omega arith; destination_in = omega arith; apart = λ e. omega (arith, e); froms = All-nil _; tos = All-nil _ };
+        few_nodes = omega arith;
+        few_arcs = omega arith;
+        some_demand = omega arith;
+        most_demand = omega arith;
+        good_arcs = All-nil _;
+      };
+      few_arcs = omega arith;
+    }
+    (refl, All-nil _, (refl, All-cons IsSmall (pos 0) (pos 0 ∷ []) zero_small (All-cons IsSmall (pos 0) [] zero_small (All-nil IsSmall)), tt))
 
 -- a fault names the first line that no certificate has there
 pub text_failed : (text : List ℕ) (line : ℕ) → read_text text ≡ Err line → IsFirstBadLine text line

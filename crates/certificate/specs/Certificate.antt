@@ -6,7 +6,7 @@ use Rattle.certificate.specs.declared.limits.TheConstants.{CERT_ARCS_MAX, CERT_N
 use Rattle.flow_model.specs.declared.instance.Arc.{Arc}
 use Rattle.flow_model.specs.declared.solve.Solved.{Solved}
 use Rattle.flow_model.specs.declared.solve.Solved.TheVariants.{Flow, Cut}
-use Rattle.flow_model.specs.Instance.{Net, IsNet, IsGoodArc}
+use Rattle.flow_model.specs.Instance.{Net, HasRanges}
 use Rattle.flow_model.specs.Potentials.{IsSmall}
 
 pub record Certificate : Type 0 where
@@ -20,12 +20,7 @@ IsAnswerFor net (Cut side) = length side ≡ net.nodes
 
 -- the ranges of a certificate's numbers; its arcs have no direction, which is given as 0
 pub record IsCertificate (c : Certificate) : Type 0 where
-  pub ends : IsNet c.net
-  pub few_nodes : c.net.nodes ≤ CERT_NODES_MAX
-  pub few_arcs : length c.net.arcs ≤ CERT_ARCS_MAX
-  pub some_demand : 1 ≤ c.net.demand
-  pub most_demand : c.net.demand ≤ MAX
-  pub good_arcs : All IsGoodArc c.net.arcs
+  pub ranges : HasRanges CERT_NODES_MAX CERT_ARCS_MAX c.net
   pub no_direction : All (λ a. a.dir ≡ 0) c.net.arcs
   pub answer : IsAnswerFor c.net c.answer
 

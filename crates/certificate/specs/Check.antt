@@ -1,5 +1,5 @@
 -- What the check of a certificate returns.
-use Rattle.std.specs.Prelude.{ℕ, zero, suc, ◌+◌, ◌&&◌, ◌||◌, not, Bool, List, length, position, sum_by, Option, Some, None, ◌==◌, nat_lt, nat_le, int_lt, if◌then◌else◌, ℤ, pos, ◌-ℤ◌}
+use Rattle.std.specs.Prelude.{ℕ, zero, suc, ◌+◌, ◌&&◌, ◌||◌, not, Bool, List, length, position, sum_by, Option, Some, None, ◌==◌, nat_lt, nat_le, int_lt, if◌then◌else◌, ℤ, pos, ◌-ℤ◌, slice_index_or}
 use Rattle.std.specs.Ordering.{int_eq}
 use Rattle.flow_model.specs.declared.instance.Arc.{Arc}
 use Rattle.flow_model.specs.declared.solve.Solved.{Solved}
@@ -22,6 +22,10 @@ due source destination demand v = if v == source then pos demand else (if v == d
 
 abbrev pub is_uneven_balance : ℕ → ℕ → ℕ → ℕ → ℤ → Bool
 is_uneven_balance source destination demand v balance = not (int_eq balance (due source destination demand v))
+
+-- the same test of a list of all nodes' balances
+abbrev pub is_uneven_at : ℕ → ℕ → ℕ → List ℤ → ℕ → Bool
+is_uneven_at source destination demand balances v = is_uneven_balance source destination demand v (slice_index_or balances v (pos 0))
 
 abbrev pub is_uneven : Net → List ℕ → ℕ → Bool
 is_uneven net flow v = is_uneven_balance net.source net.destination net.demand v (pos (leaving v (loads net flow)) -ℤ pos (entering v (loads net flow)))

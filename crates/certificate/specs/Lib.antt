@@ -5,5 +5,4 @@ pub mod Cert
 pub mod Reading
 pub mod Fault
 pub mod Check
-pub mod Search
 pub mod Laws

@@ -1,6 +1,6 @@
 -- Serves private clauses only: what the functions that read a certificate compute. `proofs/` shows that they read the
 -- grammar.
-use Rattle.std.specs.Prelude.{ℕ, zero, suc, ◌+◌, ◌-◌, ◌*◌, Bool, ◌&&◌, List, [], ◌∷◌, length, take, drop, map, codes, slice_index, Option, Some, None, Result, Ok, Err, option_map, option_and_then, ◌==◌, nat_lt, if◌then◌else◌, ℤ, pos, ◌-ℤ◌}
+use Rattle.std.specs.Prelude.{ℕ, zero, suc, ◌+◌, ◌-◌, ◌*◌, Bool, ◌&&◌, List, [], ◌∷◌, length, take, drop, codes, slice_index, Option, Some, None, Result, Ok, Err, option_map, option_and_then, ◌==◌, nat_lt, if◌then◌else◌, ℤ, pos, ◌-ℤ◌}
 use Rattle.std.specs.List.{prefix_len, starts_with}
 use Rattle.std.specs.Prelude.{nat_eq}
 use Rattle.std.specs.Char.{is_ascii_digit}
@@ -8,14 +8,14 @@ use Rattle.std.specs.Borrow.{Bor}
 use Rattle.plan_base.specs.declared.amount.TheConstants.{MAX}
 use Rattle.flow_model.specs.declared.limits.TheConstants.{COST_MAX, POTENTIAL_MAX}
 use Rattle.certificate.specs.declared.limits.TheConstants.{VERSION, CERT_ARCS_MAX, CERT_NODES_MAX, AMOUNT_DIGITS_MAX, POTENTIAL_DIGITS_MAX}
-use Rattle.certificate.specs.declared.cert.CertArc.{CertArc}
+use Rattle.flow_model.specs.declared.instance.Arc.{Arc}
 use Rattle.certificate.specs.declared.problem.Problem.{Problem}
 use Rattle.certificate.specs.declared.problem.CertificateKind.{CertificateKind}
 use Rattle.certificate.specs.declared.problem.CertificateKind.TheVariants as Kinds
 use Rattle.flow_model.specs.declared.solve.Solved.{Solved}
 use Rattle.flow_model.specs.declared.solve.Solved.TheVariants.{Flow, Cut}
 use Rattle.certificate.specs.Certificate.{Certificate}
-use Rattle.certificate.specs.Cert.{net_of}
+use Rattle.certificate.specs.Cert.{units_in, net_of}
 
 -- a value and the text after it
 abbrev pub Read : Type 0 → Type 0
@@ -92,7 +92,7 @@ unfoldable pub read_units : CertificateKind → List ℕ → Read ℕ
 read_units Kinds.Flow text = read_field MAX text
 read_units Kinds.Cut text = Some (0, text)
 
-unfoldable pub read_arc : CertificateKind → ℕ → List ℕ → Read CertArc
+unfoldable pub read_arc : CertificateKind → ℕ → List ℕ → Read (Arc × ℕ)
 read_arc kind nodes text = do
   ends ← read_word (codes "arc") text
   from ← read_field (nodes - 1) ends
@@ -101,7 +101,7 @@ read_arc kind nodes text = do
   cost ← read_field COST_MAX room.1
   units ← read_units kind cost.1
   after ← read_byte 10 units.1
-  if from.0 == to.0 then None else (if room.0 == 0 then None else (if cost.0 == 0 then None else Some (record { from = from.0; to = to.0; room = room.0; cost = cost.0; units = units.0 }, after)))
+  if from.0 == to.0 then None else (if room.0 == 0 then None else (if cost.0 == 0 then None else Some ((record { from = from.0; to = to.0; room = room.0; cost = cost.0; dir = 0 }, units.0), after)))
 
 -- a number below zero, whose minus was read
 unfoldable pub read_negative : List ℕ → Read ℤ
@@ -169,9 +169,9 @@ read_last line text = then_read (nothing_after (line + 1)) (or_line line (read_e
 unfoldable pub read_nodes : {A : Type 0} → (List ℕ → Read A) → ℕ → ℕ → List ℕ → Result (List A) ℕ
 read_nodes read nodes line text = then_read (λ r. then_read (λ _. Ok r.0) (read_last (line + nodes) r.1)) (read_lines read nodes line text)
 
-unfoldable pub read_answer : CertificateKind → ℕ → List CertArc → ℕ → List ℕ → Result Solved ℕ
-read_answer Kinds.Flow nodes arcs line text = then_read (λ p. Ok (Flow (map (λ a. a.units) arcs) p)) (read_nodes read_potential nodes line text)
-read_answer Kinds.Cut nodes arcs line text = then_read (λ s. Ok (Cut s)) (read_nodes read_side nodes line text)
+unfoldable pub read_answer : CertificateKind → ℕ → List (Arc × ℕ) → ℕ → List ℕ → Result Solved ℕ
+read_answer Kinds.Flow nodes loads line text = then_read (λ p. Ok (Flow (units_in loads) p)) (read_nodes read_potential nodes line text)
+read_answer Kinds.Cut nodes loads line text = then_read (λ s. Ok (Cut s)) (read_nodes read_side nodes line text)
 
 -- the lines after the second
 unfoldable pub read_body : CertificateKind → Problem → List ℕ → Result Certificate ℕ

@@ -2,16 +2,43 @@ ghost use Rattle.std.specs.Prelude.{◌≡◌};
 ghost use Rattle.certificate.specs.Certificate.{potentials_of, potentials_view};
 
 use crate::problem::Problem;
+use flow_model::{Arc, AsArc};
 use std::marker::Model;
 
-/// An arc of a certificate, with the units that it carries; 0 if the certificate has no flow.
-#[derive(Clone, Copy, Debug, PartialEq, Eq)]
-pub(crate) struct CertArc {
+/// An arc of a certificate with the units that it carries; 0 if the certificate has no flow. The arc has no direction,
+/// which is given as 0.
+#[derive(Clone, Copy, Debug)]
+pub(crate) struct Load {
     pub(crate) from: u32,
     pub(crate) to: u32,
     pub(crate) room: u64,
     pub(crate) cost: u64,
     pub(crate) units: u64,
+}
+
+impl Model for Load {
+    ghost use Rattle.std.specs.Prelude.{ℕ};
+    ghost use Rattle.flow_model.specs.declared.instance.Arc.{Arc};
+
+    ghost Value = { Arc × ℕ };
+
+    ghost view = { λ l. (record { from = l.from; to = l.to; room = l.room; cost = l.cost; dir = 0 }, l.units) };
+
+    ghost inverse = { λ l. record { from = l.0.from; to = l.0.to; room = l.0.room; cost = l.0.cost; units = l.1 } };
+}
+
+impl AsArc for Load {
+    ghost arc = { λ l. l.0 };
+
+    fn arc(self) -> Arc {
+        Arc {
+            from: self.from,
+            to: self.to,
+            room: self.room,
+            cost: self.cost,
+            dir: 0,
+        }
+    }
 }
 
 /// The evidence of a certificate.
@@ -32,7 +59,7 @@ pub(crate) enum Evidence {
 #[derive(Debug, Drop)]
 pub struct Cert {
     pub(crate) problem: Problem,
-    pub(crate) arcs: Vec<CertArc>,
+    pub(crate) loads: Vec<Load>,
     pub(crate) evidence: Evidence,
 }
 
@@ -44,14 +71,14 @@ impl Model for Cert {
     ghost Value = { Certificate };
 
     ghost view = { λ c. record {
-      net = net_of c.problem c.arcs.items;
-      answer = answer_of c.arcs.items c.evidence;
+      net = net_of c.problem c.loads.items;
+      answer = answer_of c.loads.items c.evidence;
     } };
 
     ghost invariant = { λ c. IsCertificate (record {
-      net = net_of c.problem c.arcs.items;
-      answer = answer_of c.arcs.items c.evidence;
-    }) × HasBalances c.problem.nodes c.arcs.items c.evidence × (length c.arcs.items ≡ c.problem.arcs) };
+      net = net_of c.problem c.loads.items;
+      answer = answer_of c.loads.items c.evidence;
+    }) × HasBalances c.problem.nodes c.loads.items c.evidence × (length c.loads.items ≡ c.problem.arcs) };
 }
 
 impl Cert {

@@ -2,7 +2,7 @@ ghost use Rattle.std.specs.Prelude.{◌≡◌, ◌<◌, ◌≤◌, ◌-◌, ◌+
 ghost use Rattle.certificate.specs.Cert.{IsGoodProblem};
 ghost use Rattle.certificate.specs.Reading as Reading;
 
-use crate::cert::CertArc;
+use crate::cert::Load;
 use crate::limits::{AMOUNT_DIGITS_MAX, CERT_ARCS_MAX, CERT_NODES_MAX, VERSION};
 use crate::number::{number, signed};
 use crate::problem::{CertificateKind, Problem};
@@ -119,11 +119,11 @@ pub(crate) struct PotentialLine;
 pub(crate) struct SideLine;
 
 impl LineForm for ArcLine {
-    type Item = CertArc;
+    type Item = Load;
 
     ghost reads = { λ l. Reading.read_arc l.kind l.nodes };
 
-    fn read<'a>(&self, text: &'a [u8]) -> Option<(CertArc, &'a [u8])> {
+    fn read<'a>(&self, text: &'a [u8]) -> Option<(Load, &'a [u8])> {
         arc(text, self.kind, self.nodes)
     }
 }
@@ -161,7 +161,7 @@ fn units(text: &[u8], kind: CertificateKind) -> Option<(u64, &[u8])>
 
 /// An arc's line.
 #[tactic(auto, unfolding(crate::specs::Reading::read_arc))]
-fn arc(text: &[u8], kind: CertificateKind, nodes: u32) -> Option<(CertArc, &[u8])>
+fn arc(text: &[u8], kind: CertificateKind, nodes: u32) -> Option<(Load, &[u8])>
     ensures { Reading.read_view result ≡ Reading.read_arc kind nodes text.now }
 {
     let most = u64::from(nodes).saturating_sub(1);
@@ -175,14 +175,14 @@ fn arc(text: &[u8], kind: CertificateKind, nodes: u32) -> Option<(CertArc, &[u8]
     if from == to || room == 0 || cost == 0 {
         return None;
     }
-    let arc = CertArc {
+    let load = Load {
         from: from as u32,
         to: to as u32,
         room,
         cost,
         units,
     };
-    Some((arc, text))
+    Some((load, text))
 }
 
 /// A potential's line.

@@ -6,7 +6,7 @@ ghost use Rattle.certificate.specs.Fault.{GivesBack, IsFirstBadLineOf, IsLineOf}
 ghost use Rattle.certificate.specs.Text.{certificate_text};
 
 use crate::balance::balances;
-use crate::cert::{Cert, CertArc, Evidence};
+use crate::cert::{Cert, Evidence, Load};
 use crate::fault::CertFault;
 use crate::limits::{CERT_ARCS_MAX, CERT_NODES_MAX};
 use crate::line::{ArcLine, LineForm, PotentialLine, SideLine, end, head, kind, problem};
@@ -62,11 +62,11 @@ fn body(
         kind,
         nodes: problem.nodes as u32,
     };
-    let (arcs, text) = lines(alloc, &arc_line, problem.arcs, 3, text)?;
-    let evidence = evidence(alloc, kind, problem.nodes, &arcs, 3 + problem.arcs, text)?;
+    let (loads, text) = lines(alloc, &arc_line, problem.arcs, 3, text)?;
+    let evidence = evidence(alloc, kind, problem.nodes, &loads, 3 + problem.arcs, text)?;
     Ok(Cert {
         problem,
-        arcs,
+        loads,
         evidence,
     })
 }
@@ -77,23 +77,23 @@ fn evidence(
     alloc: Global,
     kind: CertificateKind,
     nodes: u64,
-    arcs: &[CertArc],
+    loads: &[Load],
     line: u64,
     text: &[u8],
 ) -> Result<Evidence, CertFault>
-    requires froms { All (λ a. a.from < nodes) arcs.now }
-    requires tos { All (λ a. a.to < nodes) arcs.now }
-    requires few { length arcs.now ≤ CERT_ARCS_MAX }
+    requires froms { All (λ l. l.0.from < nodes) loads.now }
+    requires tos { All (λ l. l.0.to < nodes) loads.now }
+    requires few { length loads.now ≤ CERT_ARCS_MAX }
     requires nodes { nodes ≤ CERT_NODES_MAX }
     requires line { line ≤ 3 + CERT_ARCS_MAX }
-    ensures ok { IfOk result (λ e. Reading.read_answer kind nodes arcs.now line text.now ≡ Ok (answer_of arcs.now e)) }
-    ensures balances { IfOk result (λ e. HasBalances nodes arcs.now e) }
-    ensures line { IfErr result (λ e. IsLineOf e (Reading.read_answer kind nodes arcs.now line text.now)) }
+    ensures ok { IfOk result (λ e. Reading.read_answer kind nodes loads.now line text.now ≡ Ok (answer_of loads.now e)) }
+    ensures balances { IfOk result (λ e. HasBalances nodes loads.now e) }
+    ensures line { IfErr result (λ e. IsLineOf e (Reading.read_answer kind nodes loads.now line text.now)) }
 {
     match kind {
         CertificateKind::Flow => {
             let potentials = node_lines(alloc, &PotentialLine, nodes, line, text)?;
-            let balances = balances(alloc, nodes as usize, arcs)?;
+            let balances = balances(alloc, nodes as usize, loads)?;
             Ok(Evidence::Potentials {
                 potentials,
                 balances,

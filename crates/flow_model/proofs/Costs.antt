@@ -15,12 +15,12 @@ use Rattle.flow_model.proofs.Balance.{All-zip}
 
 pub cost_fits : (net : Net) (flow : List ℕ) → IsInstance net → length flow ≡ length net.arcs → Fits net flow → cost_of net flow < 2 ^ 128
 cost_fits net flow good long fits =
-    omega (arith, good.few_arcs, length-zip net.arcs flow, sum_by-le (λ (l : Arc × ℕ). l.1 * l.0.cost) (MAX * COST_MAX) (loads net flow) each)
+    omega (arith, good.ranges.few_arcs, length-zip net.arcs flow, sum_by-le (λ (l : Arc × ℕ). l.1 * l.0.cost) (MAX * COST_MAX) (loads net flow) each)
   where
     each : All (λ (l : Arc × ℕ). l.1 * l.0.cost ≤ MAX * COST_MAX) (loads net flow)
     each k d l =
         let at = slice_index_or (loads net flow) k d in
-        let arc = All-zip IsGoodArc net.arcs flow good.good_arcs k d l in
+        let arc = All-zip IsGoodArc net.arcs flow good.ranges.good_arcs k d l in
         let few : at.1 ≤ MAX = omega (arith, fits k d l, arc.most_room) in
         mul-le _ _ _ _ few arc.most_cost
 

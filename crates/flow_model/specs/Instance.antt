@@ -35,13 +35,17 @@ Dearer a b = a.dir ≡ b.dir → (a.from ≡ b.from) × (a.to ≡ b.to) × (a.co
 abbrev pub StandTogether : List Arc → Type 0
 StandTogether arcs = (i j k : ℕ) (d : Arc) → i < j → j < k → k < length arcs → (slice_index_or arcs i d).dir ≡ (slice_index_or arcs k d).dir → (slice_index_or arcs i d).dir ≡ (slice_index_or arcs j d).dir
 
--- what holds of each instance
-pub record IsInstance (net : Net) : Type 0 where
+-- the ranges of a network's numbers, for the most nodes and arcs that it may have
+pub record HasRanges (nodes_max arcs_max : ℕ) (net : Net) : Type 0 where
   pub ends : IsNet net
-  pub few_nodes : net.nodes ≤ NODES_MAX
-  pub few_arcs : length net.arcs ≤ ARCS_MAX
+  pub few_nodes : net.nodes ≤ nodes_max
+  pub few_arcs : length net.arcs ≤ arcs_max
   pub some_demand : 1 ≤ net.demand
   pub most_demand : net.demand ≤ MAX
   pub good_arcs : All IsGoodArc net.arcs
+
+-- what holds of each instance
+pub record IsInstance (net : Net) : Type 0 where
+  pub ranges : HasRanges NODES_MAX ARCS_MAX net
   pub dearer : AllPairs Dearer net.arcs
   pub together : StandTogether net.arcs

@@ -16,5 +16,5 @@ pub use flow::{Flow, cost, fill};
 pub use instance::{Arc, Instance};
 pub use laws::{cut_has_no_flow, first_arcs_first, limit_values, shown_is_cheapest};
 pub use limits::{ARCS_MAX, COST_MAX, NODES_MAX, POTENTIAL_MAX};
-pub use side::{cuts, leaving_room};
+pub use side::{AsArc, cuts, leaving_room};
 pub use solve::{Solve, Solved};

@@ -5,23 +5,23 @@ use Rattle.certificate.proofs.reader.body.Goals as goal
 
 pub evidence-requires-clause-froms : goal.evidence-requires-clause-froms
 evidence-requires-clause-froms c =
-    let h = arcs_read c.args.kind c.args.problem c.args.text.now c.in_ok-arcs.text.now c.in_ok-arcs.arcs.items c.requires c.in_ok-arcs.ensures.ok in
-    All-same (λ a. a.from < c.args.problem.nodes) c.deref.result.now c.in_ok-arcs.arcs.items c.deref.ensures.value h.1
+    let h = arcs_read c.args.kind c.args.problem c.args.text.now c.in_ok-loads.text.now c.in_ok-loads.loads.items c.requires c.in_ok-loads.ensures.ok in
+    All-same (λ l. l.0.from < c.args.problem.nodes) c.deref.result.now c.in_ok-loads.loads.items c.deref.ensures.value h.1
 
 pub evidence-requires-clause-tos : goal.evidence-requires-clause-tos
 evidence-requires-clause-tos c =
-    let h = arcs_read c.args.kind c.args.problem c.args.text.now c.in_ok-arcs.text.now c.in_ok-arcs.arcs.items c.requires c.in_ok-arcs.ensures.ok in
-    All-same (λ a. a.to < c.args.problem.nodes) c.deref.result.now c.in_ok-arcs.arcs.items c.deref.ensures.value h.2
+    let h = arcs_read c.args.kind c.args.problem c.args.text.now c.in_ok-loads.text.now c.in_ok-loads.loads.items c.requires c.in_ok-loads.ensures.ok in
+    All-same (λ l. l.0.to < c.args.problem.nodes) c.deref.result.now c.in_ok-loads.loads.items c.deref.ensures.value h.2
 
 pub evidence-requires-clause-few : goal.evidence-requires-clause-few
 evidence-requires-clause-few c =
-    let h = arcs_read c.args.kind c.args.problem c.args.text.now c.in_ok-arcs.text.now c.in_ok-arcs.arcs.items c.requires c.in_ok-arcs.ensures.ok in
+    let h = arcs_read c.args.kind c.args.problem c.args.text.now c.in_ok-loads.text.now c.in_ok-loads.loads.items c.requires c.in_ok-loads.ensures.ok in
     omega (arith, h.0, ap length c.deref.ensures.value, c.requires.few_arcs)
 
 pub invariant_of-result : goal.invariant_of-result
 invariant_of-result c =
-    let arcs = c.in_ok-arcs.arcs.items in
-    let h = arcs_read c.args.kind c.args.problem c.args.text.now c.in_ok-arcs.text.now arcs c.requires c.in_ok-arcs.ensures.ok in
+    let loads = c.in_ok-loads.loads.items in
+    let h = arcs_read c.args.kind c.args.problem c.args.text.now c.in_ok-loads.text.now loads c.requires c.in_ok-loads.ensures.ok in
     let answer = rw c.deref.ensures.value at c.in_ok-evidence.ensures.ok in
     let balances = rw c.deref.ensures.value at c.in_ok-evidence.ensures.balances in
-    (body_read c.args.kind c.args.problem c.args.text.now c.in_ok-arcs.text.now arcs _ c.requires c.in_ok-arcs.ensures.ok answer, balances, h.0)
+    (body_read c.args.kind c.args.problem c.args.text.now c.in_ok-loads.text.now loads _ c.requires c.in_ok-loads.ensures.ok answer, balances, h.0)

@@ -1,5 +1,5 @@
 use Rattle.std.proofs.Common.{sym}
-use Rattle.certificate.specs.Search.{is_uneven_at}
+use Rattle.certificate.specs.Check.{is_uneven_at}
 use Rattle.certificate.proofs.Found.{below_found}
 use Rattle.certificate.proofs.verdict.first_uneven.Goals as goal
 

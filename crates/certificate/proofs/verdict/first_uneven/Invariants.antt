@@ -1,5 +1,5 @@
 use Rattle.std.proofs.Common.{ℕ, ◌<◌, ◌≡◌, false}
-use Rattle.certificate.specs.Search.{is_uneven_at}
+use Rattle.certificate.specs.Check.{is_uneven_at}
 use Rattle.certificate.proofs.verdict.first_uneven.Given as goal
 
 abbrev pub invariant-loop-v : goal.invariant-loop-v

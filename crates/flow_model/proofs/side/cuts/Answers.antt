@@ -6,4 +6,4 @@ use Rattle.flow_model.proofs.Costs.{room_fits}
 use Rattle.flow_model.proofs.side.cuts.Goals as goal
 
 pub leaving_room-requires-clause-fits : goal.leaving_room-requires-clause-fits
-leaving_room-requires-clause-fits c = rw c.arcs.ensures.value (room_fits c.args.side.now c.args.instance.now.arcs (All-weaker IsGoodArc (λ a. a.room ≤ MAX) (λ a h. h.most_room) _ c.arcs.ensures.bounds.good_arcs) c.arcs.ensures.bounds.few_arcs)
+leaving_room-requires-clause-fits c = rw c.arcs.ensures.value (room_fits c.args.side.now c.args.instance.now.arcs (All-weaker IsGoodArc (λ a. a.room ≤ MAX) (λ a h. h.most_room) _ c.arcs.ensures.bounds.ranges.good_arcs) c.arcs.ensures.bounds.ranges.few_arcs)

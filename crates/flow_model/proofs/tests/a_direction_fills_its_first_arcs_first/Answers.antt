@@ -19,20 +19,22 @@ both P p q = All-cons P first (second ∷ []) p (All-cons P second [] q (All-nil
 one_direction : IsInstance record { nodes = 2; source = 0; destination = 1; demand = 350000; arcs = first ∷ second ∷ [] }
 unfolding first second
 one_direction = record {
-  ends = record {
-    source_in = omega arith;
-    destination_in = omega arith;
-    apart = λ e. omega arith;
-    froms = both (λ a. a.from < 2) (omega arith) (omega arith);
-    tos = both (λ a. a.to < 2) (omega arith) (omega arith);
+  ranges = record {
+    ends = record {
+      source_in = omega arith;
+      destination_in = omega arith;
+      apart = λ e. omega arith;
+      froms = both (λ a. a.from < 2) (omega arith) (omega arith);
+      tos = both (λ a. a.to < 2) (omega arith) (omega arith);
+    };
+    few_nodes = omega arith;
+    few_arcs = omega arith;
+    some_demand = omega arith;
+    most_demand = omega arith;
+    good_arcs = both IsGoodArc
+        record { apart = λ e. omega arith; some_room = omega arith; most_room = omega arith; some_cost = omega arith; most_cost = omega arith }
+        record { apart = λ e. omega arith; some_room = omega arith; most_room = omega arith; some_cost = omega arith; most_cost = omega arith };
   };
-  few_nodes = omega arith;
-  few_arcs = omega arith;
-  some_demand = omega arith;
-  most_demand = omega arith;
-  good_arcs = both IsGoodArc
-      record { apart = λ e. omega arith; some_room = omega arith; most_room = omega arith; some_cost = omega arith; most_cost = omega arith }
-      record { apart = λ e. omega arith; some_room = omega arith; most_room = omega arith; some_cost = omega arith; most_cost = omega arith };
   dearer = AllPairs-cons Dearer first (second ∷ []) (All-cons (Dearer first) second [] (λ _. (refl, refl, omega arith)) (All-nil (Dearer first))) (AllPairs-cons Dearer second [] (All-nil (Dearer second)) (λ i j d l k. absurd (omega arith)));
   together = λ i j k d l m n e. absurd (omega arith);
 }
