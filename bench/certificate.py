@@ -1,13 +1,14 @@
 #!/usr/bin/env python3
 """Times `askrened check` on a certificate that this script makes, and tells its peak memory.
 
-certificate.py [ARCS [NODES]]          242,000 arcs, 15,000 nodes; five runs, the middle one is told
+certificate.py [ARCS [NODES]]          550,000 arcs, 15,000 nodes; five runs, the middle one is told
 certificate.py --write FILE [ARCS [NODES]]      writes the certificate alone
 
-The certificate is of a cheapest flow, without a solver: nodes get potentials that ascend from the source to the
-destination, parts of the demand go along ascending paths, and the cost of each arc is chosen so that the potentials show
-the flow: equal to the difference where some room is left, at most that where the arc is full, at least that where it is
-not used. The program is the one that `./askrened` runs.
+The certificate is of version 2 and of a cheapest flow, without a solver: nodes get potentials that ascend from the source
+to the destination, and parts of the demand go along ascending paths. A direction is one to seven arcs, which get dearer
+and fill in order. Their costs are chosen so that the potentials show the flow: equal to the difference where an arc
+carries units and has room left, at most that where it is full, at least that where it is not used. The program is the one
+that `./askrened` runs.
 """
 import os
 import random
@@ -18,6 +19,24 @@ import time
 
 TOP = os.path.dirname(os.path.dirname(os.path.abspath(__file__)))
 PROGRAM = subprocess.run([os.path.join(TOP, "scripts", "program")], stdout=subprocess.PIPE, text=True, check=True).stdout.strip()
+
+
+def unused(draw, least, count):
+    """The rooms, costs and units of arcs that carry nothing, dearer and dearer."""
+    costs = sorted(least + draw.randrange(10**9) for _ in range(count))
+    return [(draw.randrange(1, 10**9), cost, 0) for cost in costs]
+
+
+def used(draw, rise, units, count):
+    """The same of arcs that carry the units in order, over a difference of potentials, and of arcs after them."""
+    filled = draw.randrange(1, min(count, units) + 1)
+    cuts = sorted(draw.sample(range(1, units), filled - 1))
+    parts = [end - start for start, end in zip([0] + cuts, cuts + [units])]
+    costs = sorted(draw.randrange(1, rise + 1) for _ in parts)
+    pieces = [(part, cost, part) for part, cost in zip(parts, costs)]
+    if draw.randrange(2):
+        pieces[-1] = (parts[-1] + draw.randrange(1, 10**6), rise, parts[-1])
+    return pieces + unused(draw, rise, count - filled)
 
 
 def make(arcs, nodes):
@@ -39,20 +58,21 @@ def make(arcs, nodes):
         path = [source] + [order[at] for at in inner] + [destination]
         for pair in zip(path, path[1:]):
             flow[pair] = flow.get(pair, 0) + units
-    lines = []
+    directions = []
     for (start, end), units in flow.items():
-        rise = potential[end] - potential[start]
-        full = draw.randrange(2) == 0
-        room = units if full else units + draw.randrange(1, 10**6)
-        cost = draw.randrange(1, rise + 1) if full else rise
-        lines.append("arc %d %d %d %d %d" % (start, end, room, cost, units))
-    while len(lines) < arcs:
+        directions.append((start, end, used(draw, potential[end] - potential[start], units, draw.randrange(1, 8))))
+    count = sum(len(pieces) for _, _, pieces in directions)
+    while count < arcs:
         start, end = draw.sample(order, 2)
         least = max(1, potential[end] - potential[start])
-        lines.append("arc %d %d %d %d 0" % (start, end, draw.randrange(1, 10**9), least + draw.randrange(10**9)))
-    draw.shuffle(lines)
-    head = ["askrene-certificate 1", "flow %d %d %d %d %d" % (nodes, len(lines), source, destination, demand)]
-    return "\n".join(head + lines + ["potential %d" % p for p in potential] + ["end", ""])
+        pieces = unused(draw, least, min(draw.randrange(1, 8), arcs - count))
+        directions.append((start, end, pieces))
+        count += len(pieces)
+    draw.shuffle(directions)
+    lines = ["askrene-certificate 2", "flow %d %d %d %d %d" % (nodes, count, source, destination, demand)]
+    for number, (start, end, pieces) in enumerate(directions):
+        lines += ["arc %d %d %d %d %d %d" % ((number, start, end) + piece) for piece in pieces]
+    return "\n".join(lines + ["potential %d" % p for p in potential] + ["end", ""])
 
 
 def time_check(path):
@@ -72,9 +92,9 @@ def main():
         words.pop(0)
     if len(words) > 2 or not all(word.isdigit() for word in words):
         sys.exit(__doc__)
-    counts = [int(word) for word in words] + [242_000, 15_000][len(words):]
-    if counts[0] < 1_000 or counts[1] < 20:
-        sys.exit("at least 1,000 arcs and 20 nodes")
+    counts = [int(word) for word in words] + [550_000, 15_000][len(words):]
+    if counts[0] < 6_000 or counts[1] < 20:
+        sys.exit("at least 6,000 arcs and 20 nodes")
     if target:
         with open(target, "w") as file:
             file.write(make(*counts))

@@ -129,7 +129,7 @@ impl LayerChange for Forget {
         _name: &Name,
         layer: &mut Layer,
     ) -> Result<EventReply, NoMemory> {
-        let count = layer_ops::age(layer, self.cutoff);
+        let count = layer_ops::age(layer, self.cutoff)?;
         Ok(EventReply::Removed { count })
     }
 }

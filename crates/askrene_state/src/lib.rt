@@ -8,8 +8,6 @@ mod layers;
 mod listing;
 mod reserving;
 mod state;
-#[cfg(test)]
-mod tests;
 
 pub use askrene_command::{Command, EventReply, Inform, Listed, Refusal};
 pub use law::refused_commands_change_nothing;

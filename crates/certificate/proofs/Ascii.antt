@@ -16,8 +16,11 @@ use Rattle.flow_model.specs.Instance.{Net, IsGoodArc}
 use Rattle.flow_model.specs.Potentials.{IsSmall}
 use Rattle.flow_model.proofs.Balance.{All-zip}
 use Rattle.certificate.specs.declared.limits.TheConstants.{CERT_NODES_MAX}
+use Rattle.certificate.specs.declared.version.Version.{Version}
+use Rattle.certificate.specs.declared.version.Version.TheVariants.{One, Two}
 use Rattle.certificate.specs.Certificate.{Certificate, IsAnswerFor, IsCertificate}
-use Rattle.certificate.specs.Text.{fields, text_line, head_line, kind_of, problem_line, arc_line, arc_lines, potential_line, side_line, node_lines, end_line, certificate_lines, certificate_text}
+use Rattle.certificate.specs.Text.{fields, text_line, head_line, kind_of, problem_line, with_direction, arc_line, arc_lines, potential_line, side_line, node_lines, end_line, certificate_lines, certificate_text}
+use Rattle.certificate.proofs.Grammar.{few_arcs}
 use Rattle.certificate.proofs.Loads.{All-units}
 
 abbrev IsAsciiText : List ℕ → Type 0
@@ -70,18 +73,25 @@ unfolding side_line is_word
 side_ascii true = line_ascii (codes "side") (1 ∷ []) refl (omega arith, tt)
 side_ascii false = line_ascii (codes "side") (0 ∷ []) refl (omega arith, tt)
 
-head_ascii : IsAsciiText head_line
+head_ascii : (version : Version) → IsAsciiText (head_line version)
 unfolding head_line is_word
-head_ascii = line_ascii (codes "askrene-certificate") (1 ∷ []) refl (omega arith, tt)
+head_ascii One = line_ascii (codes "askrene-certificate") (1 ∷ []) refl (omega arith, tt)
+head_ascii Two = line_ascii (codes "askrene-certificate") (2 ∷ []) refl (omega arith, tt)
 
 end_ascii : IsAsciiText end_line
 unfolding end_line is_word
 end_ascii = line_ascii (codes "end") [] refl tt
 
-arc_ascii : (nodes : ℕ) (a : Arc) (more : List ℕ) → nodes ≤ CERT_NODES_MAX → a.from < nodes → a.to < nodes → IsGoodArc a → AllShort more → IsAsciiText (arc_line a more)
+direction_short : (version : Version) (a : Arc) (numbers : List ℕ) → a.dir < 2 ^ 32 → AllShort numbers → AllShort (with_direction version a numbers)
+direction_short One a numbers small short = short
+direction_short Two a numbers small short = (omega (arith, small), short)
+
+arc_ascii : (version : Version) (nodes : ℕ) (a : Arc) (more : List ℕ) → nodes ≤ CERT_NODES_MAX → a.from < nodes → a.to < nodes → IsGoodArc a → AllShort more → IsAsciiText (arc_line version a more)
 unfolding arc_line is_word
-arc_ascii nodes a more few from to good short = line_ascii (codes "arc") (a.from ∷ a.to ∷ a.room ∷ a.cost ∷ more) refl
-    (omega (arith, few, from), (omega (arith, few, to), (omega (arith, good.most_room), (omega (arith, good.most_cost), short))))
+arc_ascii version nodes a more few from to good short =
+    let numbers = a.from ∷ a.to ∷ a.room ∷ a.cost ∷ more in
+    line_ascii (codes "arc") (with_direction version a numbers) refl
+    (direction_short version a numbers good.direction (omega (arith, few, from), (omega (arith, few, to), (omega (arith, good.most_room), (omega (arith, good.most_cost), short)))))
 
 kind_ascii : (answer : Solved) → is_word (kind_of answer) ≡ true
 unfolding is_word
@@ -91,15 +101,15 @@ kind_ascii (Cut side) = refl
 problem_ascii : (c : Certificate) → IsCertificate c → IsAsciiText (problem_line c.net c.answer)
 unfolding problem_line
 problem_ascii c good = line_ascii (kind_of c.answer) (c.net.nodes ∷ length c.net.arcs ∷ c.net.source ∷ c.net.destination ∷ c.net.demand ∷ []) (kind_ascii c.answer)
-    (omega (arith, good.ranges.few_nodes), (omega (arith, good.ranges.few_arcs), (omega (arith, good.ranges.few_nodes, good.ranges.ends.source_in), (omega (arith, good.ranges.few_nodes, good.ranges.ends.destination_in), (omega (arith, good.ranges.most_demand), tt)))))
+    (omega (arith, good.ranges.few_nodes), (omega (arith, few_arcs c.version (length c.net.arcs) good.ranges.few_arcs), (omega (arith, good.ranges.few_nodes, good.ranges.ends.source_in), (omega (arith, good.ranges.few_nodes, good.ranges.ends.destination_in), (omega (arith, good.ranges.most_demand), tt)))))
 
-arcs_ascii : (net : Net) (answer : Solved) → IsCertificate (record { net = net; answer = answer }) → All IsAsciiText (arc_lines net answer)
-arcs_ascii net (Flow flow potentials) c = All-map IsAsciiText (λ (l : Arc × ℕ). arc_line l.0 (l.1 ∷ [])) (zip net.arcs flow) λ k d l.
+arcs_ascii : (version : Version) (net : Net) (answer : Solved) → IsCertificate (record { version = version; net = net; answer = answer }) → All IsAsciiText (arc_lines version net answer)
+arcs_ascii version net (Flow flow potentials) c = All-map IsAsciiText (λ (l : Arc × ℕ). arc_line version l.0 (l.1 ∷ [])) (zip net.arcs flow) λ k d l.
     let from = All-zip (λ a. a.from < net.nodes) net.arcs flow c.ranges.ends.froms k d l in
     let to = All-zip (λ a. a.to < net.nodes) net.arcs flow c.ranges.ends.tos k d l in
     let units = All-units (λ n. n ≤ MAX) net.arcs flow c.answer.1 k d l in
-    arc_ascii net.nodes _ _ c.ranges.few_nodes from to (All-zip IsGoodArc net.arcs flow c.ranges.good_arcs k d l) (omega (arith, units), tt)
-arcs_ascii net (Cut side) c = All-map IsAsciiText (λ (a : Arc). arc_line a []) net.arcs (λ k d l. arc_ascii net.nodes _ [] c.ranges.few_nodes (c.ranges.ends.froms k d l) (c.ranges.ends.tos k d l) (c.ranges.good_arcs k d l) tt)
+    arc_ascii version net.nodes _ _ c.ranges.few_nodes from to (All-zip IsGoodArc net.arcs flow c.ranges.good_arcs k d l) (omega (arith, units), tt)
+arcs_ascii version net (Cut side) c = All-map IsAsciiText (λ (a : Arc). arc_line version a []) net.arcs (λ k d l. arc_ascii version net.nodes _ [] c.ranges.few_nodes (c.ranges.ends.froms k d l) (c.ranges.ends.tos k d l) (c.ranges.good_arcs k d l) tt)
 
 nodes_ascii : (net : Net) (answer : Solved) → IsAnswerFor net answer → All IsAsciiText (node_lines answer)
 nodes_ascii net (Flow flow potentials) h = All-map IsAsciiText potential_line potentials (All-weaker IsSmall (λ z. IsAsciiText (potential_line z)) potential_ascii potentials h.3)
@@ -108,9 +118,9 @@ nodes_ascii net (Cut side) h = All-map IsAsciiText side_line side (λ k d l. sid
 pub text_ascii : (c : Certificate) (text : List ℕ) → text ≡ certificate_text c → IsCertificate c → All (λ byte. byte < 128) text
 text_ascii c text is good =
     let answer = node_lines c.answer ++ end_line ∷ [] in
-    let body = arc_lines c.net c.answer ++ answer in
+    let body = arc_lines c.version c.net c.answer ++ answer in
     let last = All-cons IsAsciiText end_line [] end_ascii (All-nil IsAsciiText) in
     let nodes = All-append IsAsciiText (node_lines c.answer) (end_line ∷ []) (nodes_ascii c.net c.answer good.answer) last in
-    let arcs = All-append IsAsciiText (arc_lines c.net c.answer) answer (arcs_ascii c.net c.answer good) nodes in
+    let arcs = All-append IsAsciiText (arc_lines c.version c.net c.answer) answer (arcs_ascii c.version c.net c.answer good) nodes in
     let problem = All-cons IsAsciiText (problem_line c.net c.answer) body (problem_ascii c good) arcs in
-    subst IsAsciiText (sym is) (concat_ascii (certificate_lines c) (All-cons IsAsciiText head_line (problem_line c.net c.answer ∷ body) head_ascii problem))
+    subst IsAsciiText (sym is) (concat_ascii (certificate_lines c) (All-cons IsAsciiText (head_line c.version) (problem_line c.net c.answer ∷ body) (head_ascii c.version) problem))

@@ -1,10 +1,9 @@
 -- The first place at which a test holds.
-use Rattle.std.proofs.Common.{ℕ, zero, suc, ◌+◌, ◌<◌, ◌≤◌, ◌≡◌, Bool, true, false, cond, List, [], ◌∷◌, length, get_or, Option, Some, None, refl, sym, ap, ◌∙◌, ⊎_elim, arith, lt-ltb, le-ltb}
-use Rattle.std.specs.Prelude.{position, nat_lt, not, map, All}
+use Rattle.std.proofs.Common.{ℕ, zero, suc, ◌<◌, ◌≤◌, ◌≡◌, Bool, true, false, cond, List, length, get_or, Option, Some, None, refl, sym, ap, ◌∙◌, ⊎_elim, arith, lt-ltb, le-ltb}
+use Rattle.std.specs.Prelude.{position, nat_lt, not, All}
 use Rattle.std.specs.List.{position_or_len}
 use Rattle.std.proofs.lemmas.Bool.{cases_eq, ltb-false, false≢true}
 use Rattle.std.proofs.lemmas.Option.{none-some}
-use Rattle.std.proofs.lemmas.List.{length-map}
 use Rattle.std.proofs.lemmas.List.Sums.{position_or_len_is, prefix_len_passes}
 use Rattle.certificate.specs.Check.{first_below, or_last}
 
@@ -64,11 +63,3 @@ position_None p xs e k d l = by (nat_lt (position_or_len p xs) (length xs)) refl
     by : (b : Bool) → nat_lt (position_or_len p xs) (length xs) ≡ b → cond b (Some (position_or_len p xs)) None ≡ None → p (get_or xs k d) ≡ false
     by true is f = absurd (none-some _ (sym f))
     by false is f = not_true (p (get_or xs k d)) (prefix_len_passes (λ x. not (p x)) xs k d (omega (arith, l, ltb-false (position_or_len p xs) (length xs) is)))
-
--- a test of what a map gives
-pub position-map : {X Y : Type 0} (p : Y → Bool) (f : X → Y) (xs : List X) → position p (map f xs) ≡ position (λ x. p (f x)) xs
-position-map {X = X} p f xs = ap (λ n. cond (nat_lt (position_or_len p (map f xs)) n) (Some (position_or_len p (map f xs))) None) (length-map xs f) ∙ ap (λ m. cond (nat_lt m (length xs)) (Some m) None) (len xs)
-  where
-    len : (ys : List X) → position_or_len p (map f ys) ≡ position_or_len (λ x. p (f x)) ys
-    len [] = refl
-    len (y ∷ ys) = ap (λ n. cond (not (p (f y))) (1 + n) 0) (len ys)

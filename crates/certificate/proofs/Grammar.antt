@@ -1,24 +1,27 @@
 -- Each line is read if and only if the grammar has it.
 use Rattle.std.proofs.Common.{ℕ, zero, suc, ◌-◌, ◌^◌, ◌<◌, ◌≤◌, ◌≡◌, Bool, List, [], ◌∷◌, ◌++◌, true, false, cond, drop, get_or, Option, Some, None, refl, sym, ap, ◌∙◌, subst, arith, append_assoc}
-use Rattle.std.specs.Prelude.{◌==◌, decimal, codes, nat_lt, slice_index, ℤ, pos, negsuc, ◌-ℤ◌, option_map}
+use Rattle.std.specs.Prelude.{◌==◌, decimal, codes, nat_lt, slice_index, ℤ, pos, negsuc, ◌-ℤ◌, option_map, option_and_then}
 use Rattle.std.specs.Fmt.{signed_decimal}
 use Rattle.std.proofs.lemmas.Bool.{eqb-true, eqb-false, ne_eqb, ltb-false, le-ltb}
-use Rattle.std.proofs.lemmas.Option.{none-some}
+use Rattle.std.proofs.lemmas.Option.{none-some, same_Some}
 use Rattle.std.proofs.lemmas.Int.{ints}
 use Rattle.std.proofs.lemmas.List.Elements.{All-nil}
 use Rattle.plan_base.specs.declared.amount.TheConstants.{MAX}
 use Rattle.flow_model.specs.Instance.{IsGoodArc}
 use Rattle.flow_model.specs.Potentials.{IsSmall}
 use Rattle.flow_model.specs.declared.limits.TheConstants.{COST_MAX, POTENTIAL_MAX}
-use Rattle.certificate.specs.declared.limits.TheConstants.{VERSION, CERT_ARCS_MAX, CERT_NODES_MAX, POTENTIAL_DIGITS_MAX}
+use Rattle.certificate.specs.declared.limits.TheConstants.{CERT_ARCS_MAX, CERT_NODES_MAX, DIRECTION_MAX, POTENTIAL_DIGITS_MAX}
+use Rattle.certificate.specs.declared.version.Version.{Version}
+use Rattle.certificate.specs.declared.version.Version.TheVariants.{One, Two}
+use Rattle.certificate.specs.Certificate.{most_arcs}
 use Rattle.flow_model.specs.declared.instance.Arc.{Arc}
 use Rattle.certificate.specs.declared.problem.Problem.{Problem}
 use Rattle.certificate.specs.declared.problem.CertificateKind.{CertificateKind}
 use Rattle.certificate.specs.declared.problem.CertificateKind.TheVariants as Kinds
-use Rattle.certificate.specs.Cert.{IsGoodProblem}
-use Rattle.certificate.specs.Text.{fields, head_line, arc_line, potential_line, side_line, end_line}
-use Rattle.certificate.specs.Reading.{read_head, read_kind, read_problem, read_units, read_arc, read_negative, read_signed, read_potential, read_side, read_end, read_field, read_word, read_byte, read_number}
-use Rattle.certificate.proofs.Chains.{cond_some, cond_none, and_then_some, same_parts}
+use Rattle.certificate.specs.Cert.{IsGoodProblem, IsLoad}
+use Rattle.certificate.specs.Text.{fields, version_number, head_line, with_direction, arc_line, potential_line, side_line, end_line}
+use Rattle.certificate.specs.Reading.{version_of, read_head, read_kind, read_problem, read_units, read_direction, read_arc, read_negative, read_signed, read_potential, read_side, read_end, read_field, read_word, read_byte, read_number}
+use Rattle.certificate.proofs.Chains.{cond_none, and_then_some, same_parts}
 use Rattle.std.proofs.lemmas.Fmt.{decimal_is_IsNumeral_wide}
 use Rattle.std.proofs.lemmas.List.{get_or_append_left}
 use Rattle.std.specs.List.{starts_with}
@@ -27,22 +30,40 @@ use Rattle.certificate.proofs.Decimals.{own, digit_at}
 use Rattle.certificate.proofs.Written.{NoDigit, digit_range, first_digit, read_number_sound, read_number_complete}
 use Rattle.certificate.proofs.Words.{starts_sound, read_word_sound, read_word_complete, read_byte_sound, read_field_sound, read_field_complete, fields_step}
 
-pub read_head_sound : (text rest : List ℕ) → read_head text ≡ Some rest → text ≡ head_line ++ rest
-unfolding read_head head_line
-read_head_sound text rest e =
-    and_then_some _ (read_word (codes "askrene-certificate") text) _ e λ a word e1.
-    and_then_some _ (read_field VERSION a) _ e1 λ n field e2.
-    and_then_some _ (read_byte 10 n.1) _ e2 λ b byte e3.
-    let h = cond_some (n.0 == VERSION) b rest e3 in
-    let version = eqb-true n.0 VERSION h.0 in
-    let f = read_field_sound VERSION a n.1 n.0 field in
-    let step = fields_step n.0 [] a n.1 rest f.1 (read_byte_sound 10 n.1 b byte ∙ ap (λ r. 10 ∷ r) h.1) in
-    read_word_sound (codes "askrene-certificate") text a word ∙ ap (λ r. codes "askrene-certificate" ++ r) (step ∙ ap (λ v. fields (v ∷ []) ++ rest) version) ∙ sym (append_assoc (codes "askrene-certificate") (fields (VERSION ∷ [])) rest)
+-- the version with this number
+version_is : (n : ℕ) (version : Version) → version_of n ≡ Some version → n ≡ version_number version
+version_is n version e = by (n == 1) (n == 2) refl refl e
+  where
+    by : (b c : Bool) → (n == 1) ≡ b → (n == 2) ≡ c → ◌≡◌ {A = Option Version} (if b then Some One else (if c then Some Two else None)) (Some version) → n ≡ version_number version
+    by true c is _ f = eqb-true n 1 is ∙ ap version_number (same_Some One version f)
+    by false true _ is f = eqb-true n 2 is ∙ ap version_number (same_Some Two version f)
+    by false false _ _ f = absurd (none-some version f)
 
-pub read_head_complete : (rest : List ℕ) → read_head (head_line ++ rest) ≡ Some rest
+pub read_head_sound : (text rest : List ℕ) (version : Version) → read_head text ≡ Some (version, rest) → text ≡ head_line version ++ rest
 unfolding read_head head_line
-read_head_complete rest =
-    rw (append_assoc (codes "askrene-certificate") (fields (VERSION ∷ [])) rest, read_word_complete (codes "askrene-certificate") (fields (VERSION ∷ []) ++ rest), read_field_complete VERSION VERSION [] rest (omega arith) (omega arith)) refl
+read_head_sound text rest version e =
+    and_then_some _ (read_word (codes "askrene-certificate") text) _ e λ a word e1.
+    and_then_some _ (read_field 2 a) _ e1 λ n field e2.
+    and_then_some _ (read_byte 10 n.1) _ e2 λ b byte e3.
+    and_then_some _ (version_of n.0) _ e3 λ v is e4.
+    let h = same_parts v version b rest e4 in
+    let number : n.0 ≡ version_number version = version_is n.0 v is ∙ ap version_number h.0 in
+    let f = read_field_sound 2 a n.1 n.0 field in
+    let step = fields_step n.0 [] a n.1 rest f.1 (read_byte_sound 10 n.1 b byte ∙ ap (λ r. 10 ∷ r) h.1) in
+    read_word_sound (codes "askrene-certificate") text a word ∙ ap (λ r. codes "askrene-certificate" ++ r) (step ∙ ap (λ v. fields (v ∷ []) ++ rest) number) ∙ sym (append_assoc (codes "askrene-certificate") (fields (version_number version ∷ [])) rest)
+
+pub read_head_complete : (version : Version) (rest : List ℕ) → read_head (head_line version ++ rest) ≡ Some (version, rest)
+unfolding read_head head_line
+read_head_complete version rest =
+    rw (append_assoc (codes "askrene-certificate") (fields (version_number version ∷ [])) rest, read_word_complete (codes "askrene-certificate") (fields (version_number version ∷ []) ++ rest), read_field_complete 2 (version_number version) [] rest (small version) (omega arith)) (back version)
+  where
+    small : (v : Version) → version_number v ≤ 2
+    small One = omega arith
+    small Two = omega arith
+
+    back : (v : Version) → option_and_then {U = Version × List ℕ} (λ w. Some (w, rest)) (version_of (version_number v)) ≡ Some (v, rest)
+    back One = refl
+    back Two = refl
 
 pub read_end_sound : (text rest : List ℕ) → read_end text ≡ Some rest → text ≡ end_line ++ rest
 unfolding read_end end_line
@@ -183,11 +204,15 @@ some_nodes p good = by p.nodes p.source p.destination good.ranges.ends.source_in
     by : (n s d : ℕ) → s < n → d < n → (s ≡ d → ⊥) → 2 ≤ n
     by n s d sn dn ne = omega (arith, sn, dn, ne)
 
-pub read_problem_sound : (text rest : List ℕ) (p : Problem) → read_problem text ≡ Some (p, rest) → IsGoodProblem p × (text ≡ problem_fields p ++ rest)
+pub few_arcs : (version : Version) (n : ℕ) → n ≤ most_arcs version → n ≤ CERT_ARCS_MAX
+few_arcs One n le = omega (arith, le)
+few_arcs Two n le = le
+
+pub read_problem_sound : (version : Version) (text rest : List ℕ) (p : Problem) → read_problem version text ≡ Some (p, rest) → IsGoodProblem p × (p.version ≡ version) × (text ≡ problem_fields p ++ rest)
 unfolding read_problem problem_fields
-read_problem_sound text rest p e =
+read_problem_sound version text rest p e =
     and_then_some _ (read_field CERT_NODES_MAX text) _ e λ n field1 e1.
-    and_then_some _ (read_field CERT_ARCS_MAX n.1) _ e1 λ m field2 e2.
+    and_then_some _ (read_field (most_arcs version) n.1) _ e1 λ m field2 e2.
     and_then_some _ (read_field (n.0 - 1) m.1) _ e2 λ s field3 e3.
     and_then_some _ (read_field (n.0 - 1) s.1) _ e3 λ d field4 e4.
     and_then_some _ (read_field MAX d.1) _ e4 λ u field5 e5.
@@ -197,13 +222,13 @@ read_problem_sound text rest p e =
     let demand = cond_none (u.0 == 0) _ _ apart.1 in
     let h = same_parts _ p b rest demand.1 in
     let f1 = read_field_sound CERT_NODES_MAX text n.1 n.0 field1 in
-    let f2 = read_field_sound CERT_ARCS_MAX n.1 m.1 m.0 field2 in
+    let f2 = read_field_sound (most_arcs version) n.1 m.1 m.0 field2 in
     let f3 = read_field_sound (n.0 - 1) m.1 s.1 s.0 field3 in
     let f4 = read_field_sound (n.0 - 1) s.1 d.1 d.0 field4 in
     let f5 = read_field_sound MAX d.1 u.1 u.0 field5 in
     let two = ltb-false n.0 2 some.0 in
     let none_of = eqb-false u.0 0 demand.0 in
-    subst (λ q. IsGoodProblem q × (text ≡ problem_fields q ++ rest)) h.0 (
+    subst (λ q. IsGoodProblem q × (q.version ≡ version) × (text ≡ problem_fields q ++ rest)) h.0 (
       record {
         ranges = record {
           ends = record {
@@ -221,17 +246,18 @@ read_problem_sound text rest p e =
         };
         few_arcs = f2.0;
       },
+      refl,
       fields_step n.0 (m.0 ∷ s.0 ∷ d.0 ∷ u.0 ∷ []) text n.1 rest f1.1 (fields_step m.0 (s.0 ∷ d.0 ∷ u.0 ∷ []) n.1 m.1 rest f2.1 (fields_step s.0 (d.0 ∷ u.0 ∷ []) m.1 s.1 rest f3.1 (fields_step d.0 (u.0 ∷ []) s.1 d.1 rest f4.1 (fields_step u.0 [] d.1 u.1 rest f5.1 (read_byte_sound 10 u.1 b byte ∙ ap (λ r. 10 ∷ r) h.1))))),
     )
 
-pub read_problem_complete : (p : Problem) (rest : List ℕ) → IsGoodProblem p → read_problem (problem_fields p ++ rest) ≡ Some (p, rest)
+pub read_problem_complete : (p : Problem) (rest : List ℕ) → IsGoodProblem p → read_problem p.version (problem_fields p ++ rest) ≡ Some (p, rest)
 unfolding read_problem problem_fields
 read_problem_complete p rest good =
     let ranges = good.ranges in
     let nodes : p.nodes - 1 < 10 ^ 19 = omega (arith, ranges.few_nodes) in
     rw (
       read_field_complete CERT_NODES_MAX p.nodes _ rest ranges.few_nodes (omega arith),
-      read_field_complete CERT_ARCS_MAX p.arcs _ rest good.few_arcs (omega arith),
+      read_field_complete (most_arcs p.version) p.arcs _ rest good.few_arcs (omega (arith, few_arcs p.version (most_arcs p.version) (omega arith))),
       read_field_complete (p.nodes - 1) p.source _ rest (omega (arith, ranges.ends.source_in)) nodes,
       read_field_complete (p.nodes - 1) p.destination _ rest (omega (arith, ranges.ends.destination_in)) nodes,
       read_field_complete MAX p.demand [] rest ranges.most_demand (omega arith),
@@ -240,24 +266,39 @@ read_problem_complete p rest good =
       ne_eqb p.demand 0 (λ e. omega (arith, ranges.some_demand, e)),
     ) refl
 
--- what an arc's line keeps
-abbrev pub IsLoad : CertificateKind → Arc × ℕ → Type 0
-IsLoad Kinds.Flow l = l.1 ≤ MAX
-IsLoad Kinds.Cut l = l.1 ≡ 0
+-- the direction of an arc on this line
+abbrev pub IsDirectionAt : Version → ℕ → ℕ → Type 0
+IsDirectionAt One line dir = dir ≡ line - 3
+IsDirectionAt Two line dir = dir ≤ DIRECTION_MAX
 
-pub record IsGoodLine (kind : CertificateKind) (nodes : ℕ) (l : Arc × ℕ) : Type 0 where
+-- an arc on this line, which is good but for its direction
+pub record IsGoodLine (version : Version) (kind : CertificateKind) (nodes line : ℕ) (l : Arc × ℕ) : Type 0 where
   pub from_in : l.0.from ≤ nodes - 1
   pub to_in : l.0.to ≤ nodes - 1
-  pub good : IsGoodArc l.0
-  pub no_direction : l.0.dir ≡ 0
+  pub good : IsGoodArc record l.0 { dir = 0 }
+  pub direction : IsDirectionAt version line l.0.dir
   pub load : IsLoad kind l
 
 abbrev pub units_field : CertificateKind → Arc × ℕ → List ℕ
 units_field Kinds.Flow l = l.1 ∷ []
 units_field Kinds.Cut l = []
 
-abbrev pub load_line : CertificateKind → Arc × ℕ → List ℕ
-load_line kind l = arc_line l.0 (units_field kind l)
+abbrev pub load_line : Version → CertificateKind → Arc × ℕ → List ℕ
+load_line version kind l = arc_line version l.0 (units_field kind l)
+
+read_direction_sound : (version : Version) (line : ℕ) (text after rest : List ℕ) (dir : ℕ) (a : Arc) (ns : List ℕ) → read_direction version line text ≡ Some (dir, after) → a.dir ≡ dir → after ≡ fields ns ++ rest → IsDirectionAt version line a.dir × (text ≡ fields (with_direction version a ns) ++ rest)
+unfolding read_direction
+read_direction_sound One line text after rest dir a ns e is behind =
+    let h = same_parts (line - 3) dir text after e in
+    (is ∙ sym h.0, h.1 ∙ behind)
+read_direction_sound Two line text after rest dir a ns e is behind =
+    let f = read_field_sound DIRECTION_MAX text after dir e in
+    (omega (arith, f.0, is), fields_step a.dir ns text after rest (f.1 ∙ ap (λ n. 32 ∷ (decimal n ++ after)) (sym is)) behind)
+
+read_direction_complete : (version : Version) (line : ℕ) (a : Arc) (ns rest : List ℕ) → IsDirectionAt version line a.dir → read_direction version line (fields (with_direction version a ns) ++ rest) ≡ Some (a.dir, fields ns ++ rest)
+unfolding read_direction
+read_direction_complete One line a ns rest is = ap (λ n. Some (n, fields ns ++ rest)) (sym is)
+read_direction_complete Two line a ns rest is = read_field_complete DIRECTION_MAX a.dir ns rest is (omega arith)
 
 read_units_sound : (kind : CertificateKind) (text after rest : List ℕ) (u : ℕ) (a : Arc × ℕ) → read_units kind text ≡ Some (u, after) → after ≡ 10 ∷ rest → a.1 ≡ u → IsLoad kind a × (text ≡ fields (units_field kind a) ++ rest)
 unfolding read_units
@@ -273,11 +314,12 @@ unfolding read_units
 read_units_complete Kinds.Flow a rest load = read_field_complete MAX a.1 [] rest load (omega arith)
 read_units_complete Kinds.Cut a rest load = ap (λ n. Some (n, 10 ∷ rest)) (sym load)
 
-pub read_arc_sound : (kind : CertificateKind) (nodes : ℕ) (text rest : List ℕ) (a : Arc × ℕ) → read_arc kind nodes text ≡ Some (a, rest) → IsGoodLine kind nodes a × (text ≡ load_line kind a ++ rest)
+pub read_arc_sound : (version : Version) (kind : CertificateKind) (nodes line : ℕ) (text rest : List ℕ) (a : Arc × ℕ) → read_arc version kind nodes line text ≡ Some (a, rest) → IsGoodLine version kind nodes line a × (text ≡ load_line version kind a ++ rest)
 unfolding read_arc arc_line
-read_arc_sound kind nodes text rest a e =
-    and_then_some _ (read_word (codes "arc") text) _ e λ w word e1.
-    and_then_some _ (read_field (nodes - 1) w) _ e1 λ f field1 e2.
+read_arc_sound version kind nodes line text rest a e =
+    and_then_some _ (read_word (codes "arc") text) _ e λ w word e0.
+    and_then_some _ (read_direction version line w) _ e0 λ v field0 e1.
+    and_then_some _ (read_field (nodes - 1) v.1) _ e1 λ f field1 e2.
     and_then_some _ (read_field (nodes - 1) f.1) _ e2 λ t field2 e3.
     and_then_some _ (read_field MAX t.1) _ e3 λ r field3 e4.
     and_then_some _ (read_field COST_MAX r.1) _ e4 λ c field4 e5.
@@ -287,15 +329,18 @@ read_arc_sound kind nodes text rest a e =
     let room = cond_none (r.0 == 0) _ _ apart.1 in
     let cost = cond_none (c.0 == 0) _ _ room.1 in
     let h = same_parts _ a b rest cost.1 in
-    let q : Arc × ℕ = (record { from = f.0; to = t.0; room = r.0; cost = c.0; dir = 0 }, u.0) in
-    let f1 = read_field_sound (nodes - 1) w f.1 f.0 field1 in
+    let q : Arc × ℕ = (record { from = f.0; to = t.0; room = r.0; cost = c.0; dir = v.0 }, u.0) in
+    let f1 = read_field_sound (nodes - 1) v.1 f.1 f.0 field1 in
     let f2 = read_field_sound (nodes - 1) f.1 t.1 t.0 field2 in
     let f3 = read_field_sound MAX t.1 r.1 r.0 field3 in
     let f4 = read_field_sound COST_MAX r.1 c.1 c.0 field4 in
     let f5 = read_units_sound kind c.1 u.1 rest u.0 q field5 (read_byte_sound 10 u.1 b byte ∙ ap (λ s. 10 ∷ s) h.1) refl in
+    let ends = f.0 ∷ t.0 ∷ r.0 ∷ c.0 ∷ units_field kind q in
+    let after = fields_step f.0 (t.0 ∷ r.0 ∷ c.0 ∷ units_field kind q) v.1 f.1 rest f1.1 (fields_step t.0 (r.0 ∷ c.0 ∷ units_field kind q) f.1 t.1 rest f2.1 (fields_step r.0 (c.0 ∷ units_field kind q) t.1 r.1 rest f3.1 (fields_step c.0 (units_field kind q) r.1 c.1 rest f4.1 f5.1))) in
+    let f0 = read_direction_sound version line w v.1 rest v.0 q.0 ends field0 refl after in
     let no_room = eqb-false r.0 0 room.0 in
     let no_cost = eqb-false c.0 0 cost.0 in
-    subst (λ x. IsGoodLine kind nodes x × (text ≡ load_line kind x ++ rest)) h.0 (
+    subst (λ x. IsGoodLine version kind nodes line x × (text ≡ load_line version kind x ++ rest)) h.0 (
       record {
         from_in = f1.0;
         to_in = f2.0;
@@ -305,23 +350,24 @@ read_arc_sound kind nodes text rest a e =
           most_room = f3.0;
           some_cost = omega (arith, no_cost);
           most_cost = omega (arith, f4.0);
+          direction = omega arith;
         };
-        no_direction = refl;
+        direction = f0.0;
         load = f5.0;
       },
-      read_word_sound (codes "arc") text w word ∙ ap (λ s. codes "arc" ++ s)
-          (fields_step f.0 (t.0 ∷ r.0 ∷ c.0 ∷ units_field kind q) w f.1 rest f1.1 (fields_step t.0 (r.0 ∷ c.0 ∷ units_field kind q) f.1 t.1 rest f2.1 (fields_step r.0 (c.0 ∷ units_field kind q) t.1 r.1 rest f3.1 (fields_step c.0 (units_field kind q) r.1 c.1 rest f4.1 f5.1))))
-          ∙ sym (append_assoc (codes "arc") (fields (f.0 ∷ t.0 ∷ r.0 ∷ c.0 ∷ units_field kind q)) rest),
+      read_word_sound (codes "arc") text w word ∙ ap (λ s. codes "arc" ++ s) f0.1 ∙ sym (append_assoc (codes "arc") (fields (with_direction version q.0 ends)) rest),
     )
 
-pub read_arc_complete : (kind : CertificateKind) (nodes : ℕ) (a : Arc × ℕ) (rest : List ℕ) → nodes ≤ CERT_NODES_MAX → IsGoodLine kind nodes a → read_arc kind nodes (load_line kind a ++ rest) ≡ Some (a, rest)
+pub read_arc_complete : (version : Version) (kind : CertificateKind) (nodes line : ℕ) (a : Arc × ℕ) (rest : List ℕ) → nodes ≤ CERT_NODES_MAX → IsGoodLine version kind nodes line a → read_arc version kind nodes line (load_line version kind a ++ rest) ≡ Some (a, rest)
 unfolding read_arc arc_line
-read_arc_complete kind nodes a rest few good =
+read_arc_complete version kind nodes line a rest few good =
     let ends : nodes - 1 < 10 ^ 19 = omega (arith, few) in
     let arc = good.good in
+    let numbers = a.0.from ∷ a.0.to ∷ a.0.room ∷ a.0.cost ∷ units_field kind a in
     rw (
-      append_assoc (codes "arc") (fields (a.0.from ∷ a.0.to ∷ a.0.room ∷ a.0.cost ∷ units_field kind a)) rest,
-      read_word_complete (codes "arc") (fields (a.0.from ∷ a.0.to ∷ a.0.room ∷ a.0.cost ∷ units_field kind a) ++ rest),
+      append_assoc (codes "arc") (fields (with_direction version a.0 numbers)) rest,
+      read_word_complete (codes "arc") (fields (with_direction version a.0 numbers) ++ rest),
+      read_direction_complete version line a.0 numbers rest good.direction,
       read_field_complete (nodes - 1) a.0.from _ rest good.from_in ends,
       read_field_complete (nodes - 1) a.0.to _ rest good.to_in ends,
       read_field_complete MAX a.0.room _ rest arc.most_room (omega arith),
@@ -330,7 +376,7 @@ read_arc_complete kind nodes a rest few good =
       ne_eqb a.0.from a.0.to arc.apart,
       ne_eqb a.0.room 0 (λ e. omega (arith, arc.some_room, e)),
       ne_eqb a.0.cost 0 (λ e. omega (arith, arc.some_cost, e)),
-    ) (ap (λ d. Some ((record a.0 { dir = d }, a.1), rest)) (sym good.no_direction))
+    ) refl
 
-pub good_problem : (text rest : List ℕ) (p : Problem) → Some (p, rest) ≡ read_problem text → IsGoodProblem p
-good_problem text rest p e = (read_problem_sound text rest p (sym e)).0
+pub good_problem : (version : Version) (text rest : List ℕ) (p : Problem) → Some (p, rest) ≡ read_problem version text → IsGoodProblem p
+good_problem version text rest p e = (read_problem_sound version text rest p (sym e)).0

@@ -1,13 +1,12 @@
 -- The lines of the nodes and the last line.
 use Rattle.std.proofs.Common.{ℕ, zero, suc, ◌+◌, ◌≤◌, ◌≡◌, List, [], ◌∷◌, ◌++◌, length, map, take, Ok, Err, refl, sym, ap, ◌∙◌, arith}
-use Rattle.std.specs.Prelude.{All}
 use Rattle.std.specs.List.{concat}
 use Rattle.std.proofs.lemmas.List.{append-nil}
 use Rattle.certificate.specs.Text.{end_line}
 use Rattle.certificate.specs.Reading.{read_nodes, read_last, read_end, then_read, or_line, nothing_after}
 use Rattle.certificate.proofs.Outcomes.{ok-err, same_Err, then_ok, then_err, or_line_ok, or_line_err}
 use Rattle.certificate.proofs.Grammar.{read_end_sound, read_end_complete}
-use Rattle.certificate.proofs.ManyLines.{Form}
+use Rattle.certificate.proofs.ManyLines.{Form, AreGoodFrom}
 use Rattle.certificate.proofs.Parts.{IsEnd, both}
 
 last_sound : (start : ℕ) (text : List ℕ) (u : Unit {0}) → read_last start text ≡ Ok u → text ≡ end_line
@@ -40,7 +39,7 @@ last_later : (start m : ℕ) (after : List ℕ) → read_last start (end_line ++
 unfolding read_last
 last_later start m after e = behind_last (start + 1) m after (sym (ap (λ o. then_read (nothing_after (start + 1)) (or_line start o)) (read_end_complete after)) ∙ e)
 
-last_end : IsEnd read_last (λ _. end_line ∷ []) (λ _. Unit {0})
+last_end : IsEnd read_last (λ _. end_line ∷ []) (λ _ _. Unit {0})
 last_end = record {
   sound = λ n text u e. (tt, last_sound n text u e ∙ sym (append-nil end_line));
   complete = λ n u good. ap (read_last n) (append-nil end_line) ∙ last_complete n;
@@ -57,9 +56,9 @@ last_end = record {
 abbrev pub node_rest : {B : Type 0} → (B → List ℕ) → List B → List (List ℕ)
 node_rest line bs = map line bs ++ end_line ∷ []
 
-abbrev pub AreNodes : {B : Type 0} → (B → Type 0) → ℕ → List B → Type 0
-AreNodes Good n bs = (length bs ≡ n) × All Good bs × Unit {0}
+abbrev pub AreNodes : {B : Type 0} → (ℕ → B → Type 0) → ℕ → ℕ → List B → Type 0
+AreNodes Good n start bs = (length bs ≡ n) × AreGoodFrom Good start bs × Unit {0}
 
 pub nodes : {B : Type 0} (form : Form B) (n : ℕ) → IsEnd (λ start text. read_nodes form.read n start text) (node_rest form.line) (AreNodes form.Good n)
 unfolding read_nodes
-nodes form n = both form read_last (λ _. end_line ∷ []) (λ _. Unit {0}) last_end tt tt (λ bs _. bs) (λ bs. bs) (λ _. tt) (λ bs. refl) (λ bs u. refl) (λ bs u. refl) n
+nodes form n = both form read_last (λ _. end_line ∷ []) (λ _ _. Unit {0}) last_end (λ _. tt) (λ _. tt) (λ bs _. bs) (λ bs. bs) (λ _. tt) (λ bs. refl) (λ bs u. refl) (λ bs u. refl) n

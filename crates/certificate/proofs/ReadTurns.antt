@@ -2,7 +2,7 @@
 use Rattle.std.proofs.Common.{ℕ, suc, ◌+◌, ◌-◌, ◌<◌, ◌≤◌, ◌≡◌, List, [], ◌∷◌, ◌++◌, Option, Some, None, Result, Ok, Err, refl, sym, ap, ◌∙◌, arith}
 use Rattle.certificate.specs.Reading.{read_lines, line_then, prepend, prepend_all}
 
-module _ {A : Type 0} (read : List ℕ → Option (A × List ℕ)) where
+module _ {A : Type 0} (read : ℕ → List ℕ → Option (A × List ℕ)) where
   push : (xs : List A) (x : A) (r : Result (List A × List ℕ) ℕ) → prepend_all (xs ++ x ∷ []) r ≡ prepend_all xs (prepend x r)
   push [] x r = refl
   push (y ∷ xs) x r = ap (prepend y) (push xs x r)
@@ -15,10 +15,10 @@ module _ {A : Type 0} (read : List ℕ → Option (A × List ℕ)) where
   at_ok [] rest = refl
   at_ok (x ∷ xs) rest = ap (prepend x) (at_ok xs rest)
 
-  one_more : (n line : ℕ) (text : List ℕ) (o : Option (A × List ℕ)) → read text ≡ o → read_lines read (suc n) line text ≡ line_then line (read_lines read n (line + 1)) o
+  one_more : (n line : ℕ) (text : List ℕ) (o : Option (A × List ℕ)) → read line text ≡ o → read_lines read (suc n) line text ≡ line_then line (read_lines read n (line + 1)) o
   one_more n line text o e = ap (line_then line (read_lines read n (line + 1))) e
 
-  pub lines_turn : (count first i : ℕ) (xs ys : List A) (x : A) (text after : List ℕ) → i < count → Some (x, after) ≡ read text → ys ≡ xs ++ x ∷ [] → prepend_all ys (read_lines read (count - (i + 1)) (first + (i + 1)) after) ≡ prepend_all xs (read_lines read (count - i) (first + i) text)
+  pub lines_turn : (count first i : ℕ) (xs ys : List A) (x : A) (text after : List ℕ) → i < count → Some (x, after) ≡ read (first + i) text → ys ≡ xs ++ x ∷ [] → prepend_all ys (read_lines read (count - (i + 1)) (first + (i + 1)) after) ≡ prepend_all xs (read_lines read (count - i) (first + i) text)
   lines_turn count first i xs ys x text after l was grows =
       let left : suc (count - (i + 1)) ≡ count - i = omega (arith, l) in
       let place : first + (i + 1) ≡ first + i + 1 = omega arith in
@@ -28,7 +28,7 @@ module _ {A : Type 0} (read : List ℕ → Option (A × List ℕ)) where
       ∙ ap (prepend_all xs) (sym (one_more (count - (i + 1)) (first + i) text (Some (x, after)) (sym was)))
       ∙ ap (λ n. prepend_all xs (read_lines read n (first + i) text)) left
 
-  pub lines_stop : (count first i : ℕ) (xs : List A) (text : List ℕ) → i < count → None ≡ read text → prepend_all xs (read_lines read (count - i) (first + i) text) ≡ Err (first + i)
+  pub lines_stop : (count first i : ℕ) (xs : List A) (text : List ℕ) → i < count → None ≡ read (first + i) text → prepend_all xs (read_lines read (count - i) (first + i) text) ≡ Err (first + i)
   lines_stop count first i xs text l was =
       let left : count - i ≡ suc (count - (i + 1)) = omega (arith, l) in
       ap (λ n. prepend_all xs (read_lines read n (first + i) text)) left

@@ -17,13 +17,15 @@ use Rattle.flow_model.specs.Potentials.{reduced_cost, IsShown, ShowsCheapest}
 use Rattle.flow_model.specs.Side.{Cuts, on_side, crossing}
 use Rattle.flow_model.proofs.Duality.{shown_is_cheapest, cut_has_no_flow}
 use Rattle.certificate.specs.declared.problem.Problem.{Problem}
+use Rattle.certificate.specs.declared.version.Version.{Version}
 use Rattle.certificate.specs.declared.verdict.Verdict.{Verdict}
 use Rattle.certificate.specs.declared.verdict.Verdict.TheVariants.{Cheapest, NoFlow, No}
 use Rattle.certificate.specs.Certificate.{Certificate, IsCertificate}
-use Rattle.certificate.specs.Cert.{arcs_in, units_in, net_of, Tallies}
-use Rattle.certificate.specs.Check.{due, is_over, is_uneven, is_uneven_at, is_missed, gains, loses, first_below, no_at, flow_verdict, verdict_for, verdict_of, IsTrueOf}
+use Rattle.certificate.specs.declared.cert.Evidence.{Evidence}
+use Rattle.certificate.specs.Cert.{arcs_in, units_in, net_of, answer_of, certificate_of, FitsLoads, Tallies}
+use Rattle.certificate.specs.Check.{carried, neighbours, are_disordered, due, is_over, is_uneven, is_uneven_at, is_missed, gains, loses, first_below, no_at, flow_verdict, verdict_for, verdict_of, IsTrueOf}
 use Rattle.certificate.proofs.Found.{below_same, below_None, position_None}
-use Rattle.certificate.proofs.Loads.{loads_are}
+use Rattle.certificate.proofs.Loads.{loads_are, carried_are}
 
 -- what the check of a flow finds, up to the first failure, is its verdict
 module _ (p : Problem) (ls : List (Arc × ℕ)) (balances potentials : List ℤ) (tallied : Tallies p.nodes balances ls) (long : length ls ≡ p.arcs) where
@@ -39,6 +41,12 @@ module _ (p : Problem) (ls : List (Arc × ℕ)) (balances potentials : List ℤ)
       let misses = ap (position (is_missed potentials)) (loads_are ls) ∙ sym g in
       let count = length-map ls (λ (l : Arc × ℕ). l.0) ∙ long in
       sym (λ i. no_at 3 (overs i) (no_at (3 + count i) ((uneven ∙ sym f) i) (no_at 3 (misses i) Cheapest)))
+
+-- the order of the arcs comes before the rest
+pub order_first : (c : Certificate) (p : Problem) (ls : List (Arc × ℕ)) (evidence : Evidence) (disorder : Option ℕ) → certificate_of p ls (answer_of ls evidence) ≡ c → FitsLoads p.nodes ls evidence → disorder ≡ position are_disordered (neighbours ls) → no_at 4 disorder (verdict_for c.net c.answer) ≡ verdict_of c
+order_first c p ls evidence disorder same fits found =
+    let here = found ∙ sym (ap (λ ks. position are_disordered (neighbours ks)) (carried_are p ls evidence fits)) in
+    subst (λ d. no_at 4 disorder (verdict_for d.net d.answer) ≡ verdict_of d) same (ap (λ o. no_at 4 o (verdict_for (net_of p ls) (answer_of ls evidence))) here)
 
 -- the verdict is true
 
@@ -60,7 +68,7 @@ shown p l e =
       (λ some. int_lt_false (pos 0) (reduced_cost p l.0) (sym (ap (λ b. b && int_lt (pos 0) (reduced_cost p l.0)) (lt-ltb 0 l.1 some)) ∙ h.1)),
     )
 
-module _ (net : Net) (flow : List ℕ) (p : List ℤ) (good : IsCertificate (record { net = net; answer = Flow flow p })) (fit : position is_over (loads net flow) ≡ None) (even : first_below (is_uneven net flow) net.nodes ≡ None) (seen : position (is_missed p) (loads net flow) ≡ None) where
+module _ (version : Version) (net : Net) (flow : List ℕ) (p : List ℤ) (good : IsCertificate (record { version = version; net = net; answer = Flow flow p })) (fit : position is_over (loads net flow) ≡ None) (even : first_below (is_uneven net flow) net.nodes ≡ None) (seen : position (is_missed p) (loads net flow) ≡ None) where
   balance : (v : ℕ) → v < net.nodes → pos (leaving v (loads net flow)) -ℤ pos (entering v (loads net flow)) ≡ due net.source net.destination net.demand v
   balance v l = (Decides-int_eq _ _).0 (not_false _ (below_None (is_uneven net flow) net.nodes even v l))
 
@@ -79,17 +87,17 @@ module _ (net : Net) (flow : List ℕ) (p : List ℤ) (good : IsCertificate (rec
     shown = All-weaker (λ l. is_missed p l ≡ false) (IsShown p) (shown p) (loads net flow) (position_None (is_missed p) (loads net flow) seen);
   }
 
-verdict_is_true : (net : Net) (answer : Solved) → IsCertificate (record { net = net; answer = answer }) → IsTrueOf (record { net = net; answer = answer }) (verdict_for net answer)
-verdict_is_true net (Flow flow p) good = by (position is_over (loads net flow)) (first_below (is_uneven net flow) net.nodes) (position (is_missed p) (loads net flow)) refl refl refl
+verdict_is_true : (net : Net) (answer : Solved) (version : Version) → IsCertificate (record { version = version; net = net; answer = answer }) → IsTrueOf (record { version = version; net = net; answer = answer }) (verdict_for net answer)
+verdict_is_true net (Flow flow p) version good = by (position is_over (loads net flow)) (first_below (is_uneven net flow) net.nodes) (position (is_missed p) (loads net flow)) refl refl refl
   where
-    by : (a b c : Option ℕ) → position is_over (loads net flow) ≡ a → first_below (is_uneven net flow) net.nodes ≡ b → position (is_missed p) (loads net flow) ≡ c → IsTrueOf (record { net = net; answer = Flow flow p }) (no_at 3 a (no_at (3 + length net.arcs) b (no_at 3 c Cheapest)))
+    by : (a b c : Option ℕ) → position is_over (loads net flow) ≡ a → first_below (is_uneven net flow) net.nodes ≡ b → position (is_missed p) (loads net flow) ≡ c → IsTrueOf (record { version = version; net = net; answer = Flow flow p }) (no_at 3 a (no_at (3 + length net.arcs) b (no_at 3 c Cheapest)))
     by (Some i) b c e f g = tt
     by None (Some v) c e f g = tt
     by None None (Some i) e f g = tt
-    by None None None e f g = let h = shows net flow p good e f g in (h, shown_is_cheapest net flow p good.ranges.ends h)
-verdict_is_true net (Cut side) good = by (on_side side net.source) (on_side side net.destination) (nat_le net.demand (sum_by (crossing side) net.arcs)) refl refl refl
+    by None None None e f g = let h = shows version net flow p good e f g in (h, shown_is_cheapest net flow p good.ranges.ends h)
+verdict_is_true net (Cut side) version good = by (on_side side net.source) (on_side side net.destination) (nat_le net.demand (sum_by (crossing side) net.arcs)) refl refl refl
   where
-    by : (a b c : Bool) → on_side side net.source ≡ a → on_side side net.destination ≡ b → nat_le net.demand (sum_by (crossing side) net.arcs) ≡ c → IsTrueOf (record { net = net; answer = Cut side }) (cond (not a) (No (3 + length net.arcs + net.source)) (cond b (No (3 + length net.arcs + net.destination)) (cond c (No 2) NoFlow)))
+    by : (a b c : Bool) → on_side side net.source ≡ a → on_side side net.destination ≡ b → nat_le net.demand (sum_by (crossing side) net.arcs) ≡ c → IsTrueOf (record { version = version; net = net; answer = Cut side }) (cond (not a) (No (3 + length net.arcs + net.source)) (cond b (No (3 + length net.arcs + net.destination)) (cond c (No 2) NoFlow)))
     by false b c e f g = tt
     by true true c e f g = tt
     by true false true e f g = tt
@@ -98,4 +106,8 @@ verdict_is_true net (Cut side) good = by (on_side side net.source) (on_side side
         (cuts, λ flow ok. cut_has_no_flow net side flow good.ranges.ends cuts ok)
 
 pub true_verdict : (c : Certificate) (v : Verdict) → IsCertificate c → v ≡ verdict_of c → IsTrueOf c v
-true_verdict c v good e = subst (IsTrueOf c) (sym e) (verdict_is_true c.net c.answer good)
+true_verdict c v good e = subst (IsTrueOf c) (sym e) (by (position are_disordered (neighbours (carried c.net c.answer))))
+  where
+    by : (o : Option ℕ) → IsTrueOf c (no_at 4 o (verdict_for c.net c.answer))
+    by (Some i) = tt
+    by None = verdict_is_true c.net c.answer c.version good

@@ -1,5 +1,5 @@
 -- What the check of a certificate returns.
-use Rattle.std.specs.Prelude.{ℕ, zero, suc, ◌+◌, ◌&&◌, ◌||◌, not, Bool, List, length, position, sum_by, Option, Some, None, ◌==◌, nat_lt, nat_le, int_lt, if◌then◌else◌, ℤ, pos, ◌-ℤ◌, slice_index_or}
+use Rattle.std.specs.Prelude.{ℕ, zero, suc, ◌+◌, ◌&&◌, ◌||◌, not, Bool, List, length, map, zip, drop, position, sum_by, Option, Some, None, ◌==◌, nat_lt, nat_le, int_lt, if◌then◌else◌, ℤ, pos, ◌-ℤ◌, slice_index_or}
 use Rattle.std.specs.Ordering.{int_eq}
 use Rattle.flow_model.specs.declared.instance.Arc.{Arc}
 use Rattle.flow_model.specs.declared.solve.Solved.{Solved}
@@ -11,6 +11,27 @@ use Rattle.flow_model.specs.Side.{Cuts, on_side, crossing}
 use Rattle.certificate.specs.declared.verdict.Verdict.{Verdict}
 use Rattle.certificate.specs.declared.verdict.Verdict.TheVariants.{Cheapest, NoFlow, No}
 use Rattle.certificate.specs.Certificate.{Certificate}
+
+-- the arcs with the units that they carry; the arcs of a cut carry none
+abbrev pub carried : Net → Solved → List (Arc × ℕ)
+carried net (Flow flow potentials) = loads net flow
+carried net (Cut side) = map (λ (a : Arc). (a, 0)) net.arcs
+
+-- the arcs that stand next to each other
+abbrev pub neighbours : List (Arc × ℕ) → List ((Arc × ℕ) × (Arc × ℕ))
+neighbours ls = zip ls (drop 1 ls)
+
+abbrev pub have_other_ends : Arc → Arc → Bool
+have_other_ends a b = not (a.from == b.from) || not (a.to == b.to)
+
+-- the later arc carries units, and the earlier one isn't full
+abbrev pub leaves_room : Arc × ℕ → Arc × ℕ → Bool
+leaves_room l m = nat_lt 0 m.1 && not (l.1 == l.0.room)
+
+-- two arcs of one direction whose ends differ, or of which the later one is cheaper, or is used while the earlier one
+-- isn't full
+abbrev pub are_disordered : (Arc × ℕ) × (Arc × ℕ) → Bool
+are_disordered n = (n.0.0.dir == n.1.0.dir) && (have_other_ends n.0.0 n.1.0 || nat_lt n.1.0.cost n.0.0.cost || leaves_room n.0 n.1)
 
 -- an arc that carries more than its room
 abbrev pub is_over : Arc × ℕ → Bool
@@ -73,8 +94,9 @@ abbrev pub verdict_for : Net → Solved → Verdict
 verdict_for net (Flow flow potentials) = flow_verdict net flow potentials
 verdict_for net (Cut side) = cut_verdict net side
 
+-- each arc and the one before it, then the flow or the side; the line of a failure is the later arc's
 abbrev pub verdict_of : Certificate → Verdict
-verdict_of c = verdict_for c.net c.answer
+verdict_of c = no_at 4 (position are_disordered (neighbours (carried c.net c.answer))) (verdict_for c.net c.answer)
 
 -- the answer is a cheapest flow, and its potentials show it
 abbrev pub IsShownCheapest : Net → Solved → Type 0

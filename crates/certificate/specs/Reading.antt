@@ -7,15 +7,18 @@ use Rattle.std.specs.Char.{is_ascii_digit}
 use Rattle.std.specs.Borrow.{Bor}
 use Rattle.plan_base.specs.declared.amount.TheConstants.{MAX}
 use Rattle.flow_model.specs.declared.limits.TheConstants.{COST_MAX, POTENTIAL_MAX}
-use Rattle.certificate.specs.declared.limits.TheConstants.{VERSION, CERT_ARCS_MAX, CERT_NODES_MAX, AMOUNT_DIGITS_MAX, POTENTIAL_DIGITS_MAX}
+use Rattle.certificate.specs.declared.limits.TheConstants.{CERT_NODES_MAX, DIRECTION_MAX, AMOUNT_DIGITS_MAX, POTENTIAL_DIGITS_MAX}
+use Rattle.certificate.specs.declared.version.Version.{Version}
+use Rattle.certificate.specs.declared.version.Version.TheVariants.{One, Two}
 use Rattle.flow_model.specs.declared.instance.Arc.{Arc}
 use Rattle.certificate.specs.declared.problem.Problem.{Problem}
 use Rattle.certificate.specs.declared.problem.CertificateKind.{CertificateKind}
 use Rattle.certificate.specs.declared.problem.CertificateKind.TheVariants as Kinds
 use Rattle.flow_model.specs.declared.solve.Solved.{Solved}
 use Rattle.flow_model.specs.declared.solve.Solved.TheVariants.{Flow, Cut}
-use Rattle.certificate.specs.Certificate.{Certificate}
-use Rattle.certificate.specs.Cert.{units_in, net_of}
+use Rattle.certificate.specs.Certificate.{Certificate, most_arcs}
+use Rattle.certificate.specs.Text.{version_number}
+use Rattle.certificate.specs.Cert.{units_in, certificate_of}
 
 -- a value and the text after it
 abbrev pub Read : Type 0 → Type 0
@@ -67,41 +70,51 @@ read_field most text = do
   number ← read_byte 32 text
   read_number AMOUNT_DIGITS_MAX most number
 
-unfoldable pub read_head : List ℕ → Option (List ℕ)
+abbrev pub version_of : ℕ → Option Version
+version_of n = if n == 1 then Some One else (if n == 2 then Some Two else None)
+
+unfoldable pub read_head : List ℕ → Read Version
 read_head text = do
-  version ← read_word (codes "askrene-certificate") text
-  n ← read_field VERSION version
+  number ← read_word (codes "askrene-certificate") text
+  n ← read_field (version_number Two) number
   after ← read_byte 10 n.1
-  if n.0 == VERSION then Some after else None
+  version ← version_of n.0
+  Some (version, after)
 
 unfoldable pub read_kind : List ℕ → Read CertificateKind
 read_kind text = if starts_with nat_eq text (codes "flow") then Some (Kinds.Flow, drop 4 text) else (if starts_with nat_eq text (codes "cut") then Some (Kinds.Cut, drop 3 text) else None)
 
-unfoldable pub read_problem : List ℕ → Read Problem
-read_problem text = do
+unfoldable pub read_problem : Version → List ℕ → Read Problem
+read_problem version text = do
   nodes ← read_field CERT_NODES_MAX text
-  arcs ← read_field CERT_ARCS_MAX nodes.1
+  arcs ← read_field (most_arcs version) nodes.1
   source ← read_field (nodes.0 - 1) arcs.1
   destination ← read_field (nodes.0 - 1) source.1
   demand ← read_field MAX destination.1
   after ← read_byte 10 demand.1
-  if nat_lt nodes.0 2 then None else (if source.0 == destination.0 then None else (if demand.0 == 0 then None else Some (record { nodes = nodes.0; arcs = arcs.0; source = source.0; destination = destination.0; demand = demand.0 }, after)))
+  if nat_lt nodes.0 2 then None else (if source.0 == destination.0 then None else (if demand.0 == 0 then None else Some (record { version = version; nodes = nodes.0; arcs = arcs.0; source = source.0; destination = destination.0; demand = demand.0 }, after)))
 
 -- the units at the end of an arc's line, if the certificate has a flow
 unfoldable pub read_units : CertificateKind → List ℕ → Read ℕ
 read_units Kinds.Flow text = read_field MAX text
 read_units Kinds.Cut text = Some (0, text)
 
-unfoldable pub read_arc : CertificateKind → ℕ → List ℕ → Read (Arc × ℕ)
-read_arc kind nodes text = do
-  ends ← read_word (codes "arc") text
-  from ← read_field (nodes - 1) ends
+-- the direction of an arc on this line: in version 1 each arc is a direction of its own
+unfoldable pub read_direction : Version → ℕ → List ℕ → Read ℕ
+read_direction One line text = Some (line - 3, text)
+read_direction Two line text = read_field DIRECTION_MAX text
+
+unfoldable pub read_arc : Version → CertificateKind → ℕ → ℕ → List ℕ → Read (Arc × ℕ)
+read_arc version kind nodes line text = do
+  numbers ← read_word (codes "arc") text
+  dir ← read_direction version line numbers
+  from ← read_field (nodes - 1) dir.1
   to ← read_field (nodes - 1) from.1
   room ← read_field MAX to.1
   cost ← read_field COST_MAX room.1
   units ← read_units kind cost.1
   after ← read_byte 10 units.1
-  if from.0 == to.0 then None else (if room.0 == 0 then None else (if cost.0 == 0 then None else Some ((record { from = from.0; to = to.0; room = room.0; cost = cost.0; dir = 0 }, units.0), after)))
+  if from.0 == to.0 then None else (if room.0 == 0 then None else (if cost.0 == 0 then None else Some ((record { from = from.0; to = to.0; room = room.0; cost = cost.0; dir = dir.0 }, units.0), after)))
 
 -- a number below zero, whose minus was read
 unfoldable pub read_negative : List ℕ → Read ℤ
@@ -153,9 +166,9 @@ line_then line more (Some p) = prepend p.0 (more p.1)
 line_then line more None = Err line
 
 -- this many lines, the first of which has this number
-abbrev pub read_lines : {A : Type 0} → (List ℕ → Read A) → ℕ → ℕ → List ℕ → Result (List A × List ℕ) ℕ
+abbrev pub read_lines : {A : Type 0} → (ℕ → List ℕ → Read A) → ℕ → ℕ → List ℕ → Result (List A × List ℕ) ℕ
 read_lines read zero line text = Ok ([], text)
-read_lines read (suc n) line text = line_then line (read_lines read n (line + 1)) (read text)
+read_lines read (suc n) line text = line_then line (read_lines read n (line + 1)) (read line text)
 
 abbrev pub nothing_after : ℕ → List ℕ → Result (Unit {0}) ℕ
 nothing_after line [] = Ok tt
@@ -166,18 +179,18 @@ unfoldable pub read_last : ℕ → List ℕ → Result (Unit {0}) ℕ
 read_last line text = then_read (nothing_after (line + 1)) (or_line line (read_end text))
 
 -- the lines of the nodes and the last one
-unfoldable pub read_nodes : {A : Type 0} → (List ℕ → Read A) → ℕ → ℕ → List ℕ → Result (List A) ℕ
+unfoldable pub read_nodes : {A : Type 0} → (ℕ → List ℕ → Read A) → ℕ → ℕ → List ℕ → Result (List A) ℕ
 read_nodes read nodes line text = then_read (λ r. then_read (λ _. Ok r.0) (read_last (line + nodes) r.1)) (read_lines read nodes line text)
 
 unfoldable pub read_answer : CertificateKind → ℕ → List (Arc × ℕ) → ℕ → List ℕ → Result Solved ℕ
-read_answer Kinds.Flow nodes loads line text = then_read (λ p. Ok (Flow (units_in loads) p)) (read_nodes read_potential nodes line text)
-read_answer Kinds.Cut nodes loads line text = then_read (λ s. Ok (Cut s)) (read_nodes read_side nodes line text)
+read_answer Kinds.Flow nodes loads line text = then_read (λ p. Ok (Flow (units_in loads) p)) (read_nodes (λ _. read_potential) nodes line text)
+read_answer Kinds.Cut nodes loads line text = then_read (λ s. Ok (Cut s)) (read_nodes (λ _. read_side) nodes line text)
 
 -- the lines after the second
 unfoldable pub read_body : CertificateKind → Problem → List ℕ → Result Certificate ℕ
 read_body kind problem text =
-    then_read (λ r. then_read (λ answer. Ok (record { net = net_of problem r.0; answer = answer })) (read_answer kind problem.nodes r.0 (3 + problem.arcs) r.1)) (read_lines (read_arc kind problem.nodes) problem.arcs 3 text)
+    then_read (λ r. then_read (λ answer. Ok (certificate_of problem r.0 answer)) (read_answer kind problem.nodes r.0 (3 + problem.arcs) r.1)) (read_lines (read_arc problem.version kind problem.nodes) problem.arcs 3 text)
 
 unfoldable pub read_text : List ℕ → Result Certificate ℕ
 read_text text =
-    then_read (λ second. then_read (λ k. then_read (λ p. read_body k.0 p.0 p.1) (or_line 2 (read_problem k.1))) (or_line 2 (read_kind second))) (or_line 1 (read_head text))
+    then_read (λ head. then_read (λ k. then_read (λ p. read_body k.0 p.0 p.1) (or_line 2 (read_problem head.0 k.1))) (or_line 2 (read_kind head.1))) (or_line 1 (read_head text))

@@ -2,11 +2,11 @@ ghost use Rattle.std.specs.Prelude.{◌≡◌};
 ghost use Rattle.certificate.specs.Certificate.{potentials_of, potentials_view};
 
 use crate::problem::Problem;
+use crate::version::Version;
 use flow_model::{Arc, AsArc};
 use std::marker::Model;
 
-/// An arc of a certificate with the units that it carries; 0 if the certificate has no flow. The arc has no direction,
-/// which is given as 0.
+/// An arc of a certificate with the units that it carries; 0 if the certificate has no flow.
 #[derive(Clone, Copy, Debug)]
 pub(crate) struct Load {
     pub(crate) from: u32,
@@ -14,6 +14,7 @@ pub(crate) struct Load {
     pub(crate) room: u64,
     pub(crate) cost: u64,
     pub(crate) units: u64,
+    pub(crate) dir: u32,
 }
 
 impl Model for Load {
@@ -22,9 +23,9 @@ impl Model for Load {
 
     ghost Value = { Arc × ℕ };
 
-    ghost view = { λ l. (record { from = l.from; to = l.to; room = l.room; cost = l.cost; dir = 0 }, l.units) };
+    ghost view = { λ l. (record { from = l.from; to = l.to; room = l.room; cost = l.cost; dir = l.dir }, l.units) };
 
-    ghost inverse = { λ l. record { from = l.0.from; to = l.0.to; room = l.0.room; cost = l.0.cost; units = l.1 } };
+    ghost inverse = { λ l. record { from = l.0.from; to = l.0.to; room = l.0.room; cost = l.0.cost; units = l.1; dir = l.0.dir } };
 }
 
 impl AsArc for Load {
@@ -36,7 +37,7 @@ impl AsArc for Load {
             to: self.to,
             room: self.room,
             cost: self.cost,
-            dir: 0,
+            dir: self.dir,
         }
     }
 }
@@ -66,22 +67,24 @@ pub struct Cert {
 impl Model for Cert {
     ghost use Rattle.std.specs.Prelude.{◌≡◌, length};
     ghost use Rattle.certificate.specs.Certificate.{Certificate, IsCertificate};
-    ghost use Rattle.certificate.specs.Cert.{net_of, answer_of, HasBalances};
+    ghost use Rattle.certificate.specs.Cert.{certificate_of, answer_of, FitsLoads};
 
     ghost Value = { Certificate };
 
-    ghost view = { λ c. record {
-      net = net_of c.problem c.loads.items;
-      answer = answer_of c.loads.items c.evidence;
-    } };
+    ghost view = { λ c. certificate_of c.problem c.loads.items (answer_of c.loads.items c.evidence) };
 
-    ghost invariant = { λ c. IsCertificate (record {
-      net = net_of c.problem c.loads.items;
-      answer = answer_of c.loads.items c.evidence;
-    }) × HasBalances c.problem.nodes c.loads.items c.evidence × (length c.loads.items ≡ c.problem.arcs) };
+    ghost invariant = { λ c. IsCertificate (certificate_of c.problem c.loads.items (answer_of c.loads.items c.evidence))
+        × FitsLoads c.problem.nodes c.loads.items c.evidence × (length c.loads.items ≡ c.problem.arcs) };
 }
 
 impl Cert {
+    /// The version of the text.
+    pub fn version(&self) -> Version
+        ensures { result ≡ self.now.version }
+    {
+        self.problem.version
+    }
+
     /// The potentials of a flow's certificate, one for each node; None if and only if it is a cut's certificate.
     pub fn potentials(&self) -> Option<&[i128]>
         ensures { potentials_view result ≡ potentials_of self.now.answer }

@@ -16,11 +16,15 @@ mod reader;
 #[cfg(test)]
 mod tests;
 mod verdict;
+mod version;
 
 pub use cert::Cert;
 pub use fault::{CertFault, CertRefusal};
-pub use law::{cut_passes, limit_values, shown_passes, text_is_read_back};
-pub use limits::{CERT_ARCS_MAX, CERT_NODES_MAX};
+pub use law::{
+    cut_passes, limit_values, shown_passes, text_is_read_back, version_one_is_unordered,
+};
+pub use limits::{CERT_ARCS_MAX, CERT_NODES_MAX, VERSION_ONE_ARCS_MAX};
 pub use print::{print_cut, print_flow};
 pub use reader::read;
 pub use verdict::{Verdict, check};
+pub use version::Version;

@@ -3,9 +3,10 @@ ghost use Rattle.certificate.specs.Cert.{IsGoodProblem};
 ghost use Rattle.certificate.specs.Reading as Reading;
 
 use crate::cert::Load;
-use crate::limits::{AMOUNT_DIGITS_MAX, CERT_ARCS_MAX, CERT_NODES_MAX, VERSION};
+use crate::limits::{AMOUNT_DIGITS_MAX, CERT_NODES_MAX, DIRECTION_MAX};
 use crate::number::{number, signed};
 use crate::problem::{CertificateKind, Problem};
+use crate::version::Version;
 use flow_model::COST_MAX;
 use plan_base::MAX;
 
@@ -43,13 +44,14 @@ fn field(text: &[u8], most: u64) -> Option<(u64, &[u8])>
 
 /// The first line: its word and the version.
 #[tactic(auto, unfolding(crate::specs::Reading::read_head))]
-pub(crate) fn head(text: &[u8]) -> Option<&[u8]>
-    ensures { Reading.text_view result ≡ Reading.read_head text.now }
+pub(crate) fn head(text: &[u8]) -> Option<(Version, &[u8])>
+    ensures { Reading.read_view result ≡ Reading.read_head text.now }
 {
     let text = word(text, b"askrene-certificate")?;
-    let (version, text) = field(text, VERSION)?;
+    let (number, text) = field(text, Version::Two.number())?;
     let text = byte(text, b'\n')?;
-    if version == VERSION { Some(text) } else { None }
+    let version = Version::of(number)?;
+    Some((version, text))
 }
 
 /// The word of the second line.
@@ -68,12 +70,12 @@ pub(crate) fn kind(text: &[u8]) -> Option<(CertificateKind, &[u8])>
 
 /// The numbers of the second line.
 #[tactic(auto, using(crate::proofs::Grammar::good_problem), unfolding(crate::specs::Reading::read_problem))]
-pub(crate) fn problem(text: &[u8]) -> Option<(Problem, &[u8])>
+pub(crate) fn problem(text: &[u8], version: Version) -> Option<(Problem, &[u8])>
     ensures good { IfSome result (λ r. IsGoodProblem r.0) }
-    ensures value { Reading.read_view result ≡ Reading.read_problem text.now }
+    ensures value { Reading.read_view result ≡ Reading.read_problem version text.now }
 {
     let (nodes, text) = field(text, CERT_NODES_MAX)?;
-    let (arcs, text) = field(text, CERT_ARCS_MAX)?;
+    let (arcs, text) = field(text, version.arcs_max())?;
     let (source, text) = field(text, nodes.saturating_sub(1))?;
     let (destination, text) = field(text, nodes.saturating_sub(1))?;
     let (demand, text) = field(text, MAX)?;
@@ -82,6 +84,7 @@ pub(crate) fn problem(text: &[u8]) -> Option<(Problem, &[u8])>
         return None;
     }
     let problem = Problem {
+        version,
         nodes,
         arcs,
         source,
@@ -96,16 +99,18 @@ pub(crate) trait LineForm {
     /// The value of a line.
     type Item;
 
-    ghost reads: { Self → List ℕ → Option (Self.Item × List ℕ) };
+    ghost reads: { Self → ℕ → List ℕ → Option (Self.Item × List ℕ) };
 
-    /// The value of the first line, and the text after it.
-    fn read<'a>(&self, text: &'a [u8]) -> Option<(Self::Item, &'a [u8])>
-        ensures { Reading.read_view result ≡ reads self.now text.now };
+    /// The value of the first line, which has the number `line`, and the text after it.
+    fn read<'a>(&self, line: u64, text: &'a [u8]) -> Option<(Self::Item, &'a [u8])>
+        requires { line < 2 ^ 32 }
+        ensures { Reading.read_view result ≡ reads self.now line text.now };
 }
 
 /// The lines of arcs.
 #[derive(Clone, Copy)]
 pub(crate) struct ArcLine {
+    pub(crate) version: Version,
     pub(crate) kind: CertificateKind,
     pub(crate) nodes: u32,
 }
@@ -121,19 +126,19 @@ pub(crate) struct SideLine;
 impl LineForm for ArcLine {
     type Item = Load;
 
-    ghost reads = { λ l. Reading.read_arc l.kind l.nodes };
+    ghost reads = { λ l. Reading.read_arc l.version l.kind l.nodes };
 
-    fn read<'a>(&self, text: &'a [u8]) -> Option<(Load, &'a [u8])> {
-        arc(text, self.kind, self.nodes)
+    fn read<'a>(&self, line: u64, text: &'a [u8]) -> Option<(Load, &'a [u8])> {
+        arc(text, *self, line)
     }
 }
 
 impl LineForm for PotentialLine {
     type Item = i128;
 
-    ghost reads = { λ _. Reading.read_potential };
+    ghost reads = { λ _ _. Reading.read_potential };
 
-    fn read<'a>(&self, text: &'a [u8]) -> Option<(i128, &'a [u8])> {
+    fn read<'a>(&self, _line: u64, text: &'a [u8]) -> Option<(i128, &'a [u8])> {
         potential(text)
     }
 }
@@ -141,9 +146,9 @@ impl LineForm for PotentialLine {
 impl LineForm for SideLine {
     type Item = bool;
 
-    ghost reads = { λ _. Reading.read_side };
+    ghost reads = { λ _ _. Reading.read_side };
 
-    fn read<'a>(&self, text: &'a [u8]) -> Option<(bool, &'a [u8])> {
+    fn read<'a>(&self, _line: u64, text: &'a [u8]) -> Option<(bool, &'a [u8])> {
         side(text)
     }
 }
@@ -159,18 +164,33 @@ fn units(text: &[u8], kind: CertificateKind) -> Option<(u64, &[u8])>
     }
 }
 
-/// An arc's line.
-#[tactic(auto, unfolding(crate::specs::Reading::read_arc))]
-fn arc(text: &[u8], kind: CertificateKind, nodes: u32) -> Option<(Load, &[u8])>
-    ensures { Reading.read_view result ≡ Reading.read_arc kind nodes text.now }
+/// The direction of an arc. In version 1 each arc is a direction of its own, by its line.
+#[tactic(auto, unfolding(crate::specs::Reading::read_direction))]
+fn direction(text: &[u8], version: Version, line: u64) -> Option<(u64, &[u8])>
+    requires { line < 2 ^ 32 }
+    ensures value { Reading.read_view result ≡ Reading.read_direction version line text.now }
+    ensures fits { IfSome result (λ r. r.0 < 2 ^ 32) }
 {
-    let most = u64::from(nodes).saturating_sub(1);
+    match version {
+        Version::One => Some((line.saturating_sub(3), text)),
+        Version::Two => field(text, DIRECTION_MAX),
+    }
+}
+
+/// An arc's line, which has the number `line`.
+#[tactic(auto, unfolding(crate::specs::Reading::read_arc))]
+fn arc(text: &[u8], form: ArcLine, line: u64) -> Option<(Load, &[u8])>
+    requires { line < 2 ^ 32 }
+    ensures { Reading.read_view result ≡ Reading.read_arc form.version form.kind form.nodes line text.now }
+{
+    let most = u64::from(form.nodes).saturating_sub(1);
     let text = word(text, b"arc")?;
+    let (dir, text) = direction(text, form.version, line)?;
     let (from, text) = field(text, most)?;
     let (to, text) = field(text, most)?;
     let (room, text) = field(text, MAX)?;
     let (cost, text) = field(text, COST_MAX)?;
-    let (units, text) = units(text, kind)?;
+    let (units, text) = units(text, form.kind)?;
     let text = byte(text, b'\n')?;
     if from == to || room == 0 || cost == 0 {
         return None;
@@ -181,6 +201,7 @@ fn arc(text: &[u8], kind: CertificateKind, nodes: u32) -> Option<(Load, &[u8])>
         room,
         cost,
         units,
+        dir: dir as u32,
     };
     Some((load, text))
 }

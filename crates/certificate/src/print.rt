@@ -9,14 +9,15 @@ ghost use Rattle.certificate.specs.Fault.{IsTooLarge};
 ghost use Rattle.certificate.specs.Text as Text;
 
 use crate::fault::CertRefusal;
-use crate::limits::{CERT_ARCS_MAX, CERT_NODES_MAX, VERSION};
+use crate::limits::{CERT_ARCS_MAX, CERT_NODES_MAX};
+use crate::version::Version;
 use flow_model::{Arc, Flow, Instance};
 use itoa::Buffer;
 use plan_base::NoMemory;
 use std::alloc::Global;
 
-/// The text of a flow's certificate, in ASCII. `TooLarge` is returned if and only if the instance has more than
-/// `CERT_ARCS_MAX` arcs or `CERT_NODES_MAX` nodes.
+/// The text of a flow's certificate, in ASCII and version 2. `TooLarge` is returned if and only if the instance has more
+/// than `CERT_ARCS_MAX` arcs or `CERT_NODES_MAX` nodes.
 pub fn print_flow(
     alloc: Global,
     instance: &Instance,
@@ -36,8 +37,8 @@ pub fn print_flow(
     Ok(flow_text(alloc, instance, flow.list(), potentials)?)
 }
 
-/// The text of a cut's certificate, in ASCII. `TooLarge` is returned if and only if the instance has more than
-/// `CERT_ARCS_MAX` arcs or `CERT_NODES_MAX` nodes.
+/// The text of a cut's certificate, in ASCII and version 2. `TooLarge` is returned if and only if the instance has more
+/// than `CERT_ARCS_MAX` arcs or `CERT_NODES_MAX` nodes.
 pub fn print_cut(alloc: Global, instance: &Instance, side: &[bool]) -> Result<Vec<u8>, CertRefusal>
     requires { length side.now ≡ instance.now.nodes }
     ensures text { IfOk result (λ t. t.items ≡ Text.certificate_text (cut_certificate instance.now side.now)) }
@@ -100,9 +101,9 @@ fn cut_text(alloc: Global, instance: &Instance, side: &[bool]) -> Result<Vec<u8>
 /// The word of the text and its version.
 #[tactic(auto, unfolding(crate::specs::Text::head_line))]
 fn first_line(text: &mut Vec<u8>) -> Result<(), NoMemory>
-    ensures { OnOk result (text.new.items ≡ text.old.items ++ Text.head_line) }
+    ensures { OnOk result (text.new.items ≡ text.old.items ++ Text.head_line Version.Two) }
 {
-    line(text, b"askrene-certificate", &[VERSION])
+    line(text, b"askrene-certificate", &[Version::Two.number()])
 }
 
 /// The kind and the numbers of the instance.
@@ -123,7 +124,7 @@ fn problem(text: &mut Vec<u8>, kind: &[u8], instance: &Instance) -> Result<(), N
 /// The lines of arcs with their units.
 fn load_lines(text: &mut Vec<u8>, arcs: &[Arc], units: &[u64]) -> Result<(), NoMemory>
     requires { length units.now ≡ length arcs.now }
-    ensures { OnOk result (text.new.items ≡ text.old.items ++ concat (map (λ (l : Arc × ℕ). Text.arc_line l.0 (l.1 ∷ [])) (zip arcs.now units.now))) }
+    ensures { OnOk result (text.new.items ≡ text.old.items ++ concat (map (λ (l : Arc × ℕ). Text.arc_line Version.Two l.0 (l.1 ∷ [])) (zip arcs.now units.now))) }
 {
     for i in 0..arcs.len() {
         load_line(text, &arcs[i], units[i])?;
@@ -134,12 +135,13 @@ fn load_lines(text: &mut Vec<u8>, arcs: &[Arc], units: &[u64]) -> Result<(), NoM
 /// The line of an arc with its units.
 #[tactic(auto, unfolding(crate::specs::Text::arc_line))]
 fn load_line(text: &mut Vec<u8>, arc: &Arc, units: u64) -> Result<(), NoMemory>
-    ensures { OnOk result (text.new.items ≡ text.old.items ++ Text.arc_line arc.now (units ∷ [])) }
+    ensures { OnOk result (text.new.items ≡ text.old.items ++ Text.arc_line Version.Two arc.now (units ∷ [])) }
 {
     line(
         text,
         b"arc",
         &[
+            u64::from(arc.dir),
             u64::from(arc.from),
             u64::from(arc.to),
             arc.room,
@@ -151,7 +153,7 @@ fn load_line(text: &mut Vec<u8>, arc: &Arc, units: u64) -> Result<(), NoMemory>
 
 /// The lines of arcs.
 fn arc_lines(text: &mut Vec<u8>, arcs: &[Arc]) -> Result<(), NoMemory>
-    ensures { OnOk result (text.new.items ≡ text.old.items ++ concat (map (λ (a : Arc). Text.arc_line a []) arcs.now)) }
+    ensures { OnOk result (text.new.items ≡ text.old.items ++ concat (map (λ (a : Arc). Text.arc_line Version.Two a []) arcs.now)) }
 {
     for i in 0..arcs.len() {
         arc_line(text, &arcs[i])?;
@@ -162,12 +164,18 @@ fn arc_lines(text: &mut Vec<u8>, arcs: &[Arc]) -> Result<(), NoMemory>
 /// The line of an arc.
 #[tactic(auto, unfolding(crate::specs::Text::arc_line))]
 fn arc_line(text: &mut Vec<u8>, arc: &Arc) -> Result<(), NoMemory>
-    ensures { OnOk result (text.new.items ≡ text.old.items ++ Text.arc_line arc.now []) }
+    ensures { OnOk result (text.new.items ≡ text.old.items ++ Text.arc_line Version.Two arc.now []) }
 {
     line(
         text,
         b"arc",
-        &[u64::from(arc.from), u64::from(arc.to), arc.room, arc.cost],
+        &[
+            u64::from(arc.dir),
+            u64::from(arc.from),
+            u64::from(arc.to),
+            arc.room,
+            arc.cost,
+        ],
     )
 }
 

@@ -1,3 +1,5 @@
+use crate::version::Version;
+
 /// Whether a certificate has a flow or a cut.
 #[derive(Clone, Copy, Debug, PartialEq, Eq)]
 pub(crate) enum CertificateKind {
@@ -5,9 +7,11 @@ pub(crate) enum CertificateKind {
     Cut,
 }
 
-/// The numbers of a certificate's second line: an instance without its arcs, and how many arcs follow.
+/// The version of a certificate, and the numbers of its second line: an instance without its arcs, and how many arcs
+/// follow.
 #[derive(Clone, Copy, Debug, PartialEq, Eq)]
 pub(crate) struct Problem {
+    pub(crate) version: Version,
     pub(crate) nodes: u64,
     pub(crate) arcs: u64,
     pub(crate) source: u64,

@@ -1,6 +1,6 @@
 ghost use Rattle.std.specs.Prelude.{◌≡◌, ◌+◌, ◌<◌, ◌≤◌, ◌^◌, IfOk, IfErr, Ok, length, All};
 ghost use Rattle.certificate.specs.Reading as Reading;
-ghost use Rattle.certificate.specs.Cert.{HasBalances, IsGoodProblem, answer_of};
+ghost use Rattle.certificate.specs.Cert.{FitsLoads, IsGoodProblem, IsLoad, answer_of};
 ghost use Rattle.certificate.specs.Certificate.{Certificate, IsCertificate};
 ghost use Rattle.certificate.specs.Fault.{GivesBack, IsFirstBadLineOf, IsLineOf};
 ghost use Rattle.certificate.specs.Text.{certificate_text};
@@ -34,13 +34,13 @@ fn read_whole(alloc: Global, text: &[u8]) -> Result<Cert, CertFault>
     ensures ok { IfOk result (λ c. Reading.read_text text.now ≡ Ok c) }
     ensures line { IfErr result (λ e. IsLineOf e (Reading.read_text text.now)) }
 {
-    let Some(second) = head(text) else {
+    let Some((version, second)) = head(text) else {
         return Err(CertFault::Line { line: 1 });
     };
     let Some((kind, numbers)) = kind(second) else {
         return Err(CertFault::Line { line: 2 });
     };
-    let Some((problem, third)) = problem(numbers) else {
+    let Some((problem, third)) = problem(numbers, version) else {
         return Err(CertFault::Line { line: 2 });
     };
     body(alloc, kind, problem, third)
@@ -59,6 +59,7 @@ fn body(
     ensures line { IfErr result (λ e. IsLineOf e (Reading.read_body kind problem text.now)) }
 {
     let arc_line = ArcLine {
+        version: problem.version,
         kind,
         nodes: problem.nodes as u32,
     };
@@ -83,11 +84,12 @@ fn evidence(
 ) -> Result<Evidence, CertFault>
     requires froms { All (λ l. l.0.from < nodes) loads.now }
     requires tos { All (λ l. l.0.to < nodes) loads.now }
+    requires units { All (IsLoad kind) loads.now }
     requires few { length loads.now ≤ CERT_ARCS_MAX }
     requires nodes { nodes ≤ CERT_NODES_MAX }
     requires line { line ≤ 3 + CERT_ARCS_MAX }
     ensures ok { IfOk result (λ e. Reading.read_answer kind nodes loads.now line text.now ≡ Ok (answer_of loads.now e)) }
-    ensures balances { IfOk result (λ e. HasBalances nodes loads.now e) }
+    ensures loads { IfOk result (λ e. FitsLoads nodes loads.now e) }
     ensures line { IfErr result (λ e. IsLineOf e (Reading.read_answer kind nodes loads.now line text.now)) }
 {
     match kind {
@@ -162,8 +164,9 @@ where
     let mut items = Vec::with_capacity(alloc, room)?;
     let mut rest = text;
     for i in 0..count {
-        let Some((item, after)) = reader.read(rest) else {
-            return Err(CertFault::Line { line: first + i });
+        let line = first + i;
+        let Some((item, after)) = reader.read(line, rest) else {
+            return Err(CertFault::Line { line });
         };
         items.push(item)?;
         rest = after;

@@ -1,7 +1,7 @@
 ghost use Rattle.std.specs.Prelude.{◌≡◌, ◌≤◌, IfOk, ◌∷◌, []};
 ghost use Rattle.flow_model.specs.declared.limits.TheConstants.{NODES_MAX};
 
-use crate::{CertFault, CertRefusal, Verdict, check, print_cut, print_flow, read};
+use crate::{CertFault, CertRefusal, Verdict, Version, check, print_cut, print_flow, read};
 use flow_model::{Arc, Flow, Instance};
 use plan_base::NoMemory;
 use std::alloc::Global;
@@ -15,6 +15,28 @@ arc 0 1 120000 255000000001 120000
 arc 0 1 200000 255000000001 200000
 arc 0 1 120000 255000000001 120000
 arc 0 1 80000 255000000001 80000
+potential 0
+potential 255000000001
+end
+";
+
+/// The same two channels with seven pieces each, which are two directions.
+const PIECES: &str = "askrene-certificate 2
+flow 2 14 0 1 1000000
+arc 0 0 1 180000 255000000001 180000
+arc 0 0 1 120000 255000000001 120000
+arc 0 0 1 90000 255000000001 90000
+arc 0 0 1 90000 255000000001 90000
+arc 0 0 1 60000 255000000001 60000
+arc 0 0 1 30000 255000000001 30000
+arc 0 0 1 30000 255000000001 30000
+arc 1 0 1 120000 255000000001 120000
+arc 1 0 1 80000 255000000001 80000
+arc 1 0 1 60000 255000000001 60000
+arc 1 0 1 60000 255000000001 60000
+arc 1 0 1 40000 255000000001 40000
+arc 1 0 1 20000 255000000001 20000
+arc 1 0 1 20000 255000000001 20000
 potential 0
 potential 255000000001
 end
@@ -55,6 +77,16 @@ side 0
 end
 ";
 
+/// Two pieces of one direction have room for 5 units when 6 are asked for.
+const CUT_PIECES: &str = "askrene-certificate 2
+cut 2 2 0 1 6
+arc 7 0 1 3 1
+arc 7 0 1 2 5
+side 1
+side 0
+end
+";
+
 /// The outcome of reading and checking a text.
 #[derive(Clone, Copy, Debug, PartialEq, Eq)]
 enum Outcome {
@@ -82,16 +114,13 @@ fn read_and_check(alloc: Global, text: &[u8]) -> Outcome {
 /// A piece of a text, what replaces it, and the outcome of the changed text.
 type Change = (&'static str, &'static str, Outcome);
 
-/// The first line.
+/// The first line of version 1.
 const HEADS: &[Change] = &[
-    ("certificate 1", "certificate 2", Unreadable(1)),
+    ("certificate 1", "certificate 2", Unreadable(3)),
     ("certificate 1", "certificate 10", Unreadable(1)),
     ("certificate 1", "certificate 01", Unreadable(1)),
-    ("certificate 1", "certificate  1", Unreadable(1)),
-    ("certificate 1", "certificate", Unreadable(1)),
     ("certificate 1\n", "certificate 1\r\n", Unreadable(1)),
     ("certificate 1\n", "certificate 1", Unreadable(1)),
-    ("askrene", "Askrene", Unreadable(1)),
     ("askrene", "\naskrene", Unreadable(1)),
 ];
 
@@ -140,6 +169,7 @@ const ARCS: &[Change] = &[
     (" 180000\n", "\n", Unreadable(4)),
     (" 180000\n", " 180001\n", No(4)),
     (" 180000\n", " 179999\n", No(9)),
+    ("arc 0 1 180000 ", "arc 0 0 1 180000 ", Unreadable(4)),
     ("arc 0 1 80000 255000000001 80000\n", "", Unreadable(8)),
     ("1000000\narc", "1000000\narc 0 1 5 1 0\narc", Unreadable(9)),
     (
@@ -251,6 +281,121 @@ const DETOURS: &[Change] = &[
     ("arc 1 2 1 1 0", "arc 1 2 1 1 2", No(5)),
 ];
 
+/// The first two lines of version 2.
+const PIECE_PROBLEMS: &[Change] = &[
+    ("certificate 2", "certificate 0", Unreadable(1)),
+    ("certificate 2", "certificate 1", Unreadable(3)),
+    ("certificate 2", "certificate 3", Unreadable(1)),
+    ("certificate 2", "certificate 02", Unreadable(1)),
+    ("certificate 2", "certificate 21", Unreadable(1)),
+    ("certificate 2", "certificate  2", Unreadable(1)),
+    ("certificate 2", "certificate", Unreadable(1)),
+    ("flow 2 14", "flow 2 014", Unreadable(2)),
+    ("flow 2 14", "flow 2 1048577", Unreadable(2)),
+    ("flow 2 14", "flow 2 1048576", Unreadable(17)),
+    ("flow 2 14", "flow 2 13", Unreadable(16)),
+    ("flow 2 14", "flow 2 15", Unreadable(17)),
+    ("flow 2 14", "flow 262145 14", Unreadable(2)),
+    ("flow 2 14", "flow 262144 14", Unreadable(19)),
+    ("flow 2 14", "cut 2 14", Unreadable(3)),
+];
+
+/// The lines of arcs in version 2.
+const PIECE_LINES: &[Change] = &[
+    ("arc 0 0 1 180000", "arc 4294967295 0 1 180000", Cheapest),
+    (
+        "arc 0 0 1 180000",
+        "arc 4294967296 0 1 180000",
+        Unreadable(3),
+    ),
+    (
+        "arc 0 0 1 180000",
+        "arc 18446744073709551616 0 1 180000",
+        Unreadable(3),
+    ),
+    ("arc 0 0 1 120000", "arc 00 0 1 120000", Unreadable(4)),
+    ("arc 0 0 1 120000", "arc -0 0 1 120000", Unreadable(4)),
+    ("arc 0 0 1 120000", "arc  0 0 1 120000", Unreadable(4)),
+    ("arc 0 0 1 120000", "arc 0 1 120000", Unreadable(4)),
+    ("arc 0 0 1 120000", "arc 0 0 2 120000", Unreadable(4)),
+    ("arc 0 0 1 120000", "arc 0 1 1 120000", Unreadable(4)),
+    ("arc 0 0 1 120000 ", "arc 0 0 1 0 ", Unreadable(4)),
+    ("255000000001 120000\n", "0 120000\n", Unreadable(4)),
+    ("255000000001 120000\n", "255000000001\n", Unreadable(4)),
+    (
+        "255000000001 120000\n",
+        "255000000001 120000 0\n",
+        Unreadable(4),
+    ),
+    (
+        "arc 1 0 1 80000",
+        "arc 1 0 1 0 1\narc 1 0 1 80000",
+        Unreadable(11),
+    ),
+];
+
+/// The order of the arcs of one direction, and then the other checks.
+const PIECE_ORDERS: &[Change] = &[
+    ("arc 0 0 1 180000 ", "arc 0 0 1 180001 ", No(4)),
+    (" 180000\n", " 179999\n", No(4)),
+    (" 180000\n", " 180001\n", No(4)),
+    ("255000000001 120000", "255000000000 120000", No(4)),
+    ("255000000001 120000", "255000000002 120000", No(5)),
+    ("arc 0 0 1 120000", "arc 0 1 0 120000", No(4)),
+    ("arc 1 0 1 120000", "arc 1 1 0 120000", No(11)),
+    ("arc 1 0 1 120000", "arc 0 0 1 120000", Cheapest),
+    ("arc 1 0 1 40000", "arc 0 0 1 40000", Cheapest),
+    (
+        "255000000001 30000\narc 1",
+        "255000000002 30000\narc 1",
+        No(9),
+    ),
+    (
+        "30000 255000000001 30000\narc 1",
+        "30001 255000000001 30000\narc 1",
+        Cheapest,
+    ),
+    (
+        "30000 255000000001 30000\narc 1",
+        "30001 255000000001 30000\narc 0",
+        No(10),
+    ),
+    (
+        "120000 255000000001 120000\narc 1",
+        "120000 255000000000 120000\narc 1",
+        Cheapest,
+    ),
+    (
+        "120000 255000000001 120000\narc 1",
+        "120000 255000000001 120000\narc 2 1 0 5 9 0\narc 1",
+        Unreadable(17),
+    ),
+    (
+        "arc 1 0 1 20000 255000000001 20000\npotential",
+        "arc 2 1 0 20000 9 0\npotential",
+        No(17),
+    ),
+    (" 20000\npotential", " 19999\npotential", No(17)),
+    (" 20000\npotential", " 20001\npotential", No(16)),
+    ("potential 0", "potential 1", No(3)),
+];
+
+/// The lines of a cut in version 2.
+const PIECE_SIDES: &[Change] = &[
+    ("certificate 2", "certificate 1", Unreadable(3)),
+    ("cut", "flow", Unreadable(3)),
+    ("arc 7 0 1 3 1", "arc 0 1 3 1", Unreadable(3)),
+    ("arc 7 0 1 2 5", "arc 7 0 1 2 5 0", Unreadable(4)),
+    ("arc 7 0 1 3 1", "arc 7 0 1 3 5", NoFlow),
+    ("arc 7 0 1 3 1", "arc 7 0 1 3 6", No(4)),
+    ("arc 7 0 1 3 1", "arc 8 0 1 3 6", NoFlow),
+    ("arc 7 0 1 2 5", "arc 7 1 0 2 5", No(4)),
+    ("arc 7 0 1 2 5", "arc 8 1 0 2 5", NoFlow),
+    (" 6\n", " 5\n", No(2)),
+    ("side 1\nside 0", "side 0\nside 0", No(5)),
+    ("side 1\nside 0", "side 1\nside 1", No(6)),
+];
+
 fn changed(alloc: Global, text: &str, change: Change) -> Result<Outcome, NoMemory> {
     let (from, to, _) = change;
     let text = text.replacen(alloc, from, to, 1)?;
@@ -272,6 +417,8 @@ fn certificates_are_read_and_checked(rt: HostRuntime) {
     assert!(rt; read_and_check(rt.alloc(), FLOW.as_bytes()) == Cheapest);
     assert!(rt; read_and_check(rt.alloc(), DETOUR.as_bytes()) == Cheapest);
     assert!(rt; read_and_check(rt.alloc(), CUT.as_bytes()) == NoFlow);
+    assert!(rt; read_and_check(rt.alloc(), PIECES.as_bytes()) == Cheapest);
+    assert!(rt; read_and_check(rt.alloc(), CUT_PIECES.as_bytes()) == NoFlow);
     assert!(rt; read_and_check(rt.alloc(), UNEVEN.as_bytes()) == No(6));
     assert!(rt; read_and_check(rt.alloc(), b"") == Unreadable(1));
 }
@@ -288,18 +435,36 @@ fn a_changed_certificate_names_its_line(rt: HostRuntime) -> Result<(), NoMemory>
     Ok(())
 }
 
+#[test]
+fn a_changed_certificate_of_version_2_names_its_line(rt: HostRuntime) -> Result<(), NoMemory> {
+    assert!(rt; all_come_to(rt.alloc(), PIECES, PIECE_PROBLEMS)?);
+    assert!(rt; all_come_to(rt.alloc(), PIECES, PIECE_LINES)?);
+    assert!(rt; all_come_to(rt.alloc(), PIECES, PIECE_ORDERS)?);
+    assert!(rt; all_come_to(rt.alloc(), CUT_PIECES, PIECE_SIDES)?);
+    Ok(())
+}
+
+#[test]
+fn a_certificate_has_its_version_and_potentials(rt: HostRuntime) -> Result<(), CertFault> {
+    let cert = read(rt.alloc(), PIECES.as_bytes())?;
+    assert!(rt; cert.version() == Version::Two);
+    assert!(rt; cert.potentials() == Some([0, 255_000_000_001].as_slice()));
+    assert!(rt; read(rt.alloc(), CUT.as_bytes())?.version() == Version::One);
+    Ok(())
+}
+
 /// The text of one arc's instance with a flow, and with a side.
-const ONE_FLOW: &str = "askrene-certificate 1
+const ONE_FLOW: &str = "askrene-certificate 2
 flow 2 1 0 1 300000
-arc 0 1 300000 255000000001 300000
+arc 7 0 1 300000 255000000001 300000
 potential -1
 potential 255000000000
 end
 ";
 
-const ONE_CUT: &str = "askrene-certificate 1
+const ONE_CUT: &str = "askrene-certificate 2
 cut 2 1 0 1 300000
-arc 0 1 300000 255000000001
+arc 7 0 1 300000 255000000001
 side 1
 side 0
 end

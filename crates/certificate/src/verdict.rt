@@ -21,9 +21,11 @@ pub enum Verdict {
     No { line: u64 },
 }
 
-/// Checks a certificate without a solver. No memory is taken. A flow fails at the first arc that carries more than its
-/// room, else at the first node whose balance isn't that of a feasible flow, else at the first arc that the potentials
-/// don't show. A side fails if it lacks the source, contains the destination, or too much room leaves it.
+/// Checks a certificate without a solver. No memory is taken. It fails at the first arc that follows an arc of its own
+/// direction and has other ends, is cheaper, or carries units although that arc isn't full. Else a flow fails at the
+/// first arc that carries more than its room, else at the first node whose balance isn't that of a feasible flow, else
+/// at the first arc that the potentials don't show. A side fails if it lacks the source, contains the destination, or
+/// too much room leaves it.
 #[tactic(auto, using(crate::proofs::Verdicts::true_verdict))]
 pub fn check(cert: &Cert) -> Verdict
     ensures verdict { result ≡ Check.verdict_of cert.now }
@@ -35,6 +37,52 @@ pub fn check(cert: &Cert) -> Verdict
 /// The first failure, or what the certificate shows.
 fn first_failure(cert: &Cert) -> Verdict
     ensures verdict { result ≡ Check.verdict_of cert.now }
+    ensures certificate { IsCertificate cert.now }
+{
+    if let Some(i) = first_disorder(&cert.loads) {
+        return Verdict::No { line: 4 + i as u64 };
+    }
+    first_gap(cert)
+}
+
+/// The first arc that is followed by an arc of its own direction out of order.
+fn first_disorder(loads: &[Load]) -> Option<usize>
+    ensures within { IfSome result (λ i. i < length loads.now) }
+    ensures value { result ≡ position Check.are_disordered (Check.neighbours loads.now) }
+{
+    loads
+        .iter()
+        .zip(loads.iter().skip(1))
+        .position(|(earlier, later)| are_disordered(*earlier, *later))
+}
+
+/// Whether the later of two arcs that stand next to each other is of the earlier one's direction and out of order.
+fn are_disordered(earlier: Load, later: Load) -> bool
+    ensures { result ≡ Check.are_disordered (earlier, later) }
+{
+    earlier.dir == later.dir
+        && (have_other_ends(earlier, later)
+            || later.cost < earlier.cost
+            || leaves_room(earlier, later))
+}
+
+/// Whether two arcs lead from or to different nodes.
+fn have_other_ends(earlier: Load, later: Load) -> bool
+    ensures { result ≡ Check.have_other_ends earlier.0 later.0 }
+{
+    earlier.from != later.from || earlier.to != later.to
+}
+
+/// Whether the later arc carries units and the earlier one isn't full.
+fn leaves_room(earlier: Load, later: Load) -> bool
+    ensures { result ≡ Check.leaves_room earlier later }
+{
+    later.units > 0 && earlier.units != earlier.room
+}
+
+/// The first failure of the flow or the side, or what it shows.
+fn first_gap(cert: &Cert) -> Verdict
+    ensures verdict { result ≡ Check.verdict_for cert.now.net cert.now.answer }
     ensures certificate { IsCertificate cert.now }
 {
     match &cert.evidence {

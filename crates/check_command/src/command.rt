@@ -8,7 +8,7 @@ use std::alloc::Global;
 use transfer::{InputFault, read_all, write_all};
 
 /// The most bytes of a certificate's text.
-pub const TEXT_MAX: usize = 67_108_864;
+pub const TEXT_MAX: usize = 134_217_728;
 
 /// Reads a text to its end, checks it as a certificate, and writes what it shows in one line.
 #[tactic(auto, using(crate::proofs::Lengths::short_is_not_long))]
@@ -17,7 +17,7 @@ pub fn check<I: Source, O: Sink>(alloc: Global, input: &mut I, output: &mut O) -
     ensures read_fault { result ≡ CheckEnd.ReadFault → Rose (I.read_faults input.old) (I.read_faults input.new) }
     ensures write_fault { result ≡ CheckEnd.WriteFault → Rose (O.write_faults output.old) (O.write_faults output.new) }
     ensures short { IsSomeAnd (I.left input.old) (λ bytes. length bytes ≤ TEXT_MAX) → result ≢ CheckEnd.Long }
-    ensures limit { TEXT_MAX ≡ 67108864 }
+    ensures limit { TEXT_MAX ≡ 134217728 }
 {
     match read_all(alloc, input, TEXT_MAX) {
         Ok(text) => write_finding(alloc, &text, output),

@@ -15,6 +15,10 @@ const UNSHOWN: &str =
 const CUT_SHORT: &str =
     "askrene-certificate 1\nflow 2 1 0 1 5\narc 0 1 7 1 5\npotential 0\npotential 1\n";
 
+/// Two pieces of one direction, of which the later one carries a unit while the earlier one has room left.
+const UNORDERED: &str =
+    "askrene-certificate 2\nflow 2 2 0 1 5\narc 0 0 1 5 1 4\narc 0 0 1 2 1 1\npotential 0\npotential 1\nend\n";
+
 /// Room for 7 units when 8 are asked for.
 const CUT: &str = "askrene-certificate 1\ncut 2 1 0 1 8\narc 0 1 7 1\nside 1\nside 0\nend\n";
 
@@ -26,6 +30,14 @@ const ROWS: &[(&str, &str, CheckEnd)] = &[
         "no 3\n",
         CheckEnd::NotShown {
             line: 3,
+            readable: true,
+        },
+    ),
+    (
+        UNORDERED,
+        "no 4\n",
+        CheckEnd::NotShown {
+            line: 4,
             readable: true,
         },
     ),

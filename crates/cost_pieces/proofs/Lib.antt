@@ -1,3 +1,4 @@
 pub mod Bounds
+pub mod Hundredths
 pub mod Rooms
 pub mod Slopes

@@ -45,15 +45,15 @@ steps_sum : (a : ℕ) (points : List ℕ) → Rises (a ∷ points) → a + sum_b
 steps_sum a [] r = omega arith
 steps_sum a (b ∷ points) r = omega (arith, r.0, steps_sum b points r.1, sum_by-cons (λ room. room) (b - a) (steps (b ∷ points)))
 
-points_rise : (lo hi unit : ℕ) → lo ≤ hi → 1 ≤ unit → Rises (cut_points lo hi unit)
-points_rise lo hi unit order some =
-    let up = div_rises lo hi unit some order in
-    (omega arith, (omega arith, (omega arith, (omega (arith, up), tt))))
+points_rise : (lo hi unit : ℕ) → Rises (cut_points lo hi unit)
+points_rise lo hi unit =
+    (omega arith, (omega arith, (omega arith, (omega arith, (omega arith, (omega arith, (omega arith, (omega arith, tt))))))))
 
 pub rooms_most : (lo hi unit most : ℕ) → All (λ room. room ≤ most) (rooms_of lo hi unit most)
 rooms_most lo hi unit most = steps_most most (map (λ point. min point most) (cut_points lo hi unit)) (cut_most most (cut_points lo hi unit))
 
 pub rooms_sum : (lo hi unit most : ℕ) → lo ≤ hi → 1 ≤ unit → sum_by (λ room. room) (rooms_of lo hi unit most) ≡ min (hi / unit) most
 rooms_sum lo hi unit most order some =
-    let h = steps_sum (min 0 most) (map (λ point. min point most) (later_points (cut_points lo hi unit))) (cut_rises most (cut_points lo hi unit) (points_rise lo hi unit order some)) in
-    omega (arith, h)
+    let h = steps_sum (min 0 most) (map (λ point. min point most) (later_points (cut_points lo hi unit))) (cut_rises most (cut_points lo hi unit) (points_rise lo hi unit)) in
+    let up = div_rises lo hi unit some order in
+    omega (arith, h, up)

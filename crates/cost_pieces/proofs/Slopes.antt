@@ -21,7 +21,7 @@ rises_at (a ∷ []) (suc i) (suc k) r le l = absurd (omega arith)
 rises_at (a ∷ b ∷ points) (suc i) (suc k) r le l = rises_at (b ∷ points) i k r.1 (omega arith) (omega arith)
 
 slopes_rise : Rises slopes
-slopes_rise = (omega arith, (omega arith, (omega arith, tt)))
+slopes_rise = (omega arith, (omega arith, (omega arith, (omega arith, (omega arith, (omega arith, (omega arith, tt)))))))
 
 slope_rises : (piece later : ℕ) → piece ≤ later → later < PIECES → slope_of piece ≤ slope_of later
 slope_rises piece later le l = rises_at slopes piece later slopes_rise le l

@@ -3,7 +3,7 @@ use Rattle.std.specs.Prelude.{ℕ, List, [], ◌∷◌, slice_index}
 
 -- the slope of the uncertainty of each piece
 abbrev pub slopes : List ℕ
-slopes = 0 ∷ 1386 ∷ 3054 ∷ 10000 ∷ []
+slopes = 0 ∷ 1188 ∷ 1682 ∷ 2377 ∷ 3730 ∷ 6931 ∷ 13862 ∷ 20000 ∷ []
 
 abbrev pub slope_of : ℕ → ℕ
 slope_of piece = slice_index slopes piece

@@ -1,5 +1,5 @@
 -- The problem: a network with rooms and costs, and a demand that is to be sent through it.
-use Rattle.std.specs.Prelude.{ℕ, ◌<◌, ◌≤◌, ◌≡◌, ◌≢◌, List, length, All, AllPairs, slice_index_or}
+use Rattle.std.specs.Prelude.{ℕ, ◌^◌, ◌<◌, ◌≤◌, ◌≡◌, ◌≢◌, List, length, All, AllPairs, slice_index_or}
 use Rattle.plan_base.specs.declared.amount.TheConstants.{MAX}
 use Rattle.flow_model.specs.declared.limits.TheConstants.{NODES_MAX, ARCS_MAX, COST_MAX}
 use Rattle.flow_model.specs.declared.instance.Arc.{Arc}
@@ -19,13 +19,15 @@ pub record IsNet (net : Net) : Type 0 where
   pub froms : All (λ a. a.from < net.nodes) net.arcs
   pub tos : All (λ a. a.to < net.nodes) net.arcs
 
--- an arc leads to another node, has room for 1 to MAX units, and costs 1 to COST_MAX per unit
+-- an arc leads to another node, has room for 1 to MAX units, and costs 1 to COST_MAX per unit; its direction is a number
+-- of 32 bits
 pub record IsGoodArc (arc : Arc) : Type 0 where
   pub apart : arc.from ≢ arc.to
   pub some_room : 1 ≤ arc.room
   pub most_room : arc.room ≤ MAX
   pub some_cost : 1 ≤ arc.cost
   pub most_cost : arc.cost ≤ COST_MAX
+  pub direction : arc.dir < 2 ^ 32
 
 -- two arcs of one direction have equal ends, and the later one isn't cheaper
 abbrev pub Dearer : Arc → Arc → Type 0

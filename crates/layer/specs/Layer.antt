@@ -1,5 +1,6 @@
 -- A layer of knowledge about channels: five lists.
-use Rattle.std.specs.Prelude.{ℕ, ◌+◌, ◌≤◌, List, [], length, All}
+use Rattle.std.specs.Prelude.{ℕ, ◌+◌, ◌≤◌, List, [], length, position, All, Option}
+use Rattle.plan_base.specs.Dir.{Direction, same_dir}
 use Rattle.layer.specs.declared.records.Created.{Created}
 use Rattle.layer.specs.declared.records.Update.{Update}
 use Rattle.layer.specs.declared.records.Constraint.{Constraint}
@@ -32,3 +33,10 @@ pub record IsGoodLayer (lists : LayerLists) : Type 0 where
   pub constraints : All IsGoodConstraint lists.constraints
   pub biases : All IsGoodBias lists.biases
   pub few : count_entries lists ≤ ENTRIES_MAX
+
+-- the position of the first update of a direction, and of its first bias
+abbrev pub update_place : LayerLists → Direction → Option ℕ
+update_place lists dir = position (λ change. same_dir change.dir dir) lists.updates
+
+abbrev pub bias_place : LayerLists → Direction → Option ℕ
+bias_place lists dir = position (λ bias. same_dir bias.dir dir) lists.biases

@@ -4,4 +4,6 @@ pub mod Update
 pub mod Constraint
 pub mod Bias
 pub mod Layer
+pub mod Places
 pub mod Fields
+pub mod Owning

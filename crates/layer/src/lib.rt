@@ -3,9 +3,13 @@
 //! Contracts see a layer as five lists of good entries.
 #![tactic(auto)]
 
+mod indexed;
 mod layer;
+mod lists;
 mod name;
+mod places;
 mod records;
+mod shared;
 
 pub use layer::Layer;
 pub use name::{NAME_MAX, Name, NameFault};

@@ -1,3 +1,5 @@
+ghost use Rattle.layer.specs.Constraint.{IsGoodConstraint};
+
 use super::*;
 use plan_base::{Dir, NoMemory, NodeId};
 use std::alloc::Global;
@@ -91,8 +93,10 @@ fn is_as_filled(layer: &Layer, node: NodeId) -> bool {
     layer.created().len() == 1
         && layer.updates().len() == 1
         && layer.updates()[0].base == Some(7)
+        && layer.update_place(layer.updates()[0].dir) == Some(0)
         && layer.biases().len() == 1
         && layer.biases()[0].bias == 6
+        && layer.bias_place(layer.biases()[0].dir) == Some(0)
         && layer.disabled().len() == 1
         && layer.disabled()[0] == node
 }
@@ -121,7 +125,9 @@ fn five_lists(rt: HostRuntime) {
         return assert!(rt; false);
     };
     assert!(rt;
-        layer.drop_before(100) == 0 && layer.drop_before(101) == 1 && layer.drop_before(101) == 0
+        layer.drop_before(100) == Ok(0)
+            && layer.drop_before(101) == Ok(1)
+            && layer.drop_before(101) == Ok(0)
     );
     assert!(rt;
         is_as_filled(&layer, node)
@@ -134,4 +140,48 @@ fn five_lists(rt: HostRuntime) {
             && copy.constraints()[0].amount == 7
     );
     assert!(rt; entries_elsewhere(&rt, &layer, copy) == (5, 6));
+}
+
+fn constraint_at(dir: Dir, moment: u64) -> Constraint
+    ensures { IsGoodConstraint result }
+{
+    Constraint {
+        dir,
+        bound: Bound::Min,
+        amount: 7,
+        moment,
+    }
+}
+
+#[test]
+fn a_change_is_not_seen_by_copies(rt: HostRuntime) {
+    let Ok(dir) = Dir::read("100x3x0/0") else {
+        return assert!(rt; false);
+    };
+    let mut layer = Layer::new(rt.alloc());
+    let Ok(empty) = layer.copy() else {
+        return assert!(rt; false);
+    };
+    assert!(rt; layer.push_constraint(constraint_at(dir, 100)).is_ok());
+    assert!(rt; layer.constraints().len() == 1 && empty.constraints().is_empty());
+    let (Ok(mut aged), Ok(kept)) = (layer.copy(), layer.copy()) else {
+        return assert!(rt; false);
+    };
+    assert!(rt; aged.drop_before(101) == Ok(1) && aged.constraints().is_empty());
+    assert!(rt; layer.constraints().len() == 1 && kept.constraints().len() == 1);
+}
+
+fn with_bias(alloc: Global) -> Result<Layer, NoMemory> {
+    let dir = Dir::read("100x3x0/0").map_err(|_| NoMemory)?;
+    let mut layer = Layer::new(alloc);
+    layer.push_bias(Bias { dir, bias: 5 })?;
+    Ok(layer)
+}
+
+// With each allocation refused in turn: if the layer could be made, then so can its copy.
+#[test]
+fn a_copy_allocates_nothing(rt: HostRuntime) {
+    if let Ok(layer) = with_bias(rt.alloc()) {
+        assert!(rt; layer.copy().is_ok_and(|copy| copy.biases().len() == 1));
+    }
 }

@@ -1,14 +1,13 @@
 -- The five lists of a layer after each change.
-use Rattle.std.specs.Prelude.{ℕ, ◌==◌, nat_eq, Bool, List, [], ◌∷◌, ◌++◌, position, slice_index_or, slice_set, Option, Some, None, if◌then◌else◌}
+use Rattle.std.specs.Prelude.{ℕ, ◌==◌, nat_eq, Bool, List, [], ◌∷◌, ◌++◌, slice_index_or, slice_set, Option, Some, None, if◌then◌else◌}
 use Rattle.std.specs.List.{list_any}
 use Rattle.std.specs.Cmp.Lexicographic.{pointwise}
-use Rattle.plan_base.specs.Dir.{Direction, same_dir}
 use Rattle.layer.specs.declared.records.Created.{Created}
 use Rattle.layer.specs.declared.records.Update.{Update}
 use Rattle.layer.specs.declared.records.Constraint.{Constraint}
 use Rattle.layer.specs.declared.records.Bias.{Bias}
 use Rattle.layer.specs.Constraint.{since}
-use Rattle.layer.specs.Layer.{LayerLists}
+use Rattle.layer.specs.Layer.{LayerLists, update_place, bias_place}
 
 -- whether the layer has created the channel
 abbrev pub has_created : LayerLists → ℕ → Bool
@@ -17,13 +16,6 @@ has_created lists scid = list_any (λ channel. channel.scid == scid) lists.creat
 -- whether the layer disables the node
 abbrev pub has_disabled : LayerLists → List ℕ → Bool
 has_disabled lists node = list_any (λ other. pointwise nat_eq other node) lists.disabled
-
--- the position of a direction's update, and of its bias
-abbrev pub update_place : LayerLists → Direction → Option ℕ
-update_place lists dir = position (λ change. same_dir change.dir dir) lists.updates
-
-abbrev pub bias_place : LayerLists → Direction → Option ℕ
-bias_place lists dir = position (λ bias. same_dir bias.dir dir) lists.biases
 
 -- the given value, else the old one
 abbrev pub given_or : {A : Type 0} → Option A → Option A → Option A

@@ -3,8 +3,8 @@ use Rattle.std.specs.Prelude.{◌≡◌, ◌==◌, ◌&&◌, not, true, is_none,
 use Rattle.plan_base.specs.Dir.{Direction}
 use Rattle.layer.specs.declared.records.Created.{Created}
 use Rattle.layer.specs.declared.records.TheConstants.{ENTRIES_MAX}
-use Rattle.layer.specs.Layer.{LayerLists, count_entries}
-use Rattle.layer_ops.specs.Changes.{has_created, has_disabled, update_place, bias_place}
+use Rattle.layer.specs.Layer.{LayerLists, count_entries, update_place, bias_place}
+use Rattle.layer_ops.specs.Changes.{has_created, has_disabled}
 use Rattle.layer_ops.specs.declared.refusal.LayerRefusal.{LayerRefusal}
 use Rattle.layer_ops.specs.declared.refusal.LayerRefusal.TheVariants.{ChannelExists, LayerFull, NoMemory}
 

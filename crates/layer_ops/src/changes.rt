@@ -1,5 +1,4 @@
-ghost use Rattle.std.specs.Prelude.{◌≡◌, ◌+◌, ◌<◌, length, true, position, IfSome, OnOk, OnErr};
-ghost use Rattle.plan_base.specs.Dir.{same_dir};
+ghost use Rattle.std.specs.Prelude.{◌≡◌, ◌+◌, ◌<◌, length, true, IfOk, OnOk, OnErr};
 ghost use Rattle.layer.specs.Created.{IsGoodCreated};
 ghost use Rattle.layer.specs.Update.{IsGoodUpdate};
 ghost use Rattle.layer.specs.Constraint.{IsGoodConstraint};
@@ -10,7 +9,7 @@ ghost use Rattle.layer_ops.specs.LayerRefusal.{IsLayerRefusal, refusal_of_adding
 
 use crate::LayerRefusal;
 use layer::{Bias, Constraint, Created, ENTRIES_MAX, Layer, Update};
-use plan_base::{Dir, NodeId, Scid};
+use plan_base::{NoMemory, NodeId, Scid};
 
 /// Appends a created channel. Refuses first if the layer has created the channel already, then if the layer is full.
 /// A refusal leaves the layer unchanged, here and below.
@@ -53,7 +52,7 @@ pub fn update(layer: &mut Layer, change: Update) -> Result<(), LayerRefusal>
     ensures err { OnErr result (layer.new ≡ layer.old) }
     ensures refusal { IsLayerRefusal (refusal_of_update layer.old change.dir) result }
 {
-    let Some(place) = place_of_update(layer.updates(), change.dir) else {
+    let Some(place) = layer.update_place(change.dir) else {
         check_room(layer)?;
         layer.push_update(change)?;
         return Ok(());
@@ -61,13 +60,6 @@ pub fn update(layer: &mut Layer, change: Update) -> Result<(), LayerRefusal>
     let merged = merge(&layer.updates()[place], &change);
     layer.set_update(place, merged)?;
     Ok(())
-}
-
-fn place_of_update(updates: &[Update], dir: Dir) -> Option<usize>
-    ensures place { result ≡ position (λ change. same_dir change.dir dir) updates.now }
-    ensures within { IfSome result (λ place. place < length updates.now) }
-{
-    updates.iter().position(|change| change.dir == dir)
 }
 
 fn merge(old: &Update, change: &Update) -> Update
@@ -107,20 +99,13 @@ pub fn bias(layer: &mut Layer, bias: Bias) -> Result<(), LayerRefusal>
     ensures err { OnErr result (layer.new ≡ layer.old) }
     ensures refusal { IsLayerRefusal (refusal_of_bias layer.old bias.dir) result }
 {
-    let Some(place) = place_of_bias(layer.biases(), bias.dir) else {
+    let Some(place) = layer.bias_place(bias.dir) else {
         check_room(layer)?;
         layer.push_bias(bias)?;
         return Ok(());
     };
     layer.set_bias(place, bias)?;
     Ok(())
-}
-
-fn place_of_bias(biases: &[Bias], dir: Dir) -> Option<usize>
-    ensures place { result ≡ position (λ bias. same_dir bias.dir dir) biases.now }
-    ensures within { IfSome result (λ place. place < length biases.now) }
-{
-    biases.iter().position(|bias| bias.dir == dir)
 }
 
 /// Appends a disabled node, or changes nothing if the node is disabled already. Refuses if it would append to a full layer.
@@ -144,10 +129,11 @@ fn disables(layer: &Layer, node: NodeId) -> bool
 }
 
 /// Removes the constraints from before the cutoff, a time in Unix seconds, and returns how many it removed. The others
-/// keep their order. Allocates nothing.
-pub fn age(layer: &mut Layer, cutoff: u64) -> u32
-    ensures kept { layer.new ≡ aged layer.old cutoff }
-    ensures count { result + length layer.new.constraints ≡ length layer.old.constraints }
+/// keep their order. If it removes none, it allocates nothing.
+pub fn age(layer: &mut Layer, cutoff: u64) -> Result<u32, NoMemory>
+    ensures kept { OnOk result (layer.new ≡ aged layer.old cutoff) }
+    ensures count { IfOk result (λ count. count + length layer.new.constraints ≡ length layer.old.constraints) }
+    ensures err { OnErr result (layer.new ≡ layer.old) }
 {
     layer.drop_before(cutoff)
 }

@@ -132,7 +132,7 @@ fn a_full_layer(rt: HostRuntime) {
     assert!(rt; inform(&mut layer, bound_at(dir, 0)) == full);
     assert!(rt; bias(&mut layer, Bias { dir, bias: 5 }) == full);
     assert!(rt; update(&mut layer, nothing_given(dir)) == full);
-    assert!(rt; age(&mut layer, 1) == 1 && layer.entries() == 65_535);
+    assert!(rt; age(&mut layer, 1) == Ok(1) && layer.entries() == 65_535);
     assert!(rt; bias(&mut layer, Bias { dir, bias: 5 }) == Ok(()));
     assert!(rt; bias(&mut layer, Bias { dir, bias: 6 }) == Ok(()));
     assert!(rt; update(&mut layer, nothing_given(dir)) == full);

@@ -17,6 +17,3 @@ mod written;
 pub use command::{CommandFault, command_of};
 pub use names::name_values;
 pub use written::{method_of, params_of};
-
-#[cfg(test)]
-mod tests;

@@ -11,6 +11,3 @@ pub use errors::{
     out_of_memory_at, parse_error,
 };
 pub use event::event_body;
-
-#[cfg(test)]
-mod tests;

@@ -4,8 +4,6 @@
 mod read;
 mod reply;
 mod request;
-#[cfg(test)]
-mod tests;
 
 pub use read::read_request;
 pub use reply::{Body, Reply, write_reply};

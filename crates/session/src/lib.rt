@@ -9,8 +9,6 @@ mod line;
 mod lines;
 mod machine;
 mod reply;
-#[cfg(test)]
-mod tests;
 mod turn;
 mod wire;
 

@@ -2,6 +2,7 @@ use Rattle.std.proofs.Common.{ℕ, ◌∙◌, ap, ◌++◌, ◌∷◌, [], map}
 use Rattle.std.specs.Prelude.{zip}
 use Rattle.std.specs.List.{concat}
 use Rattle.flow_model.specs.declared.instance.Arc.{Arc}
+use Rattle.certificate.specs.declared.version.Version.TheVariants.{Two}
 use Rattle.flow_model.specs.declared.solve.Solved.TheVariants.{Flow}
 use Rattle.certificate.specs.Text.{problem_line, head_line, arc_line}
 use Rattle.certificate.proofs.Printed.{whole_text}
@@ -9,4 +10,4 @@ use Rattle.certificate.proofs.print.flow_text.Goals as goal
 
 pub returns : goal.returns
 unfolding problem_line
-returns c = whole_text c.args.instance.now (Flow c.args.units.now c.args.potentials.now) c.first_line.new.text.items c.problem.new.text.items c.load_lines.new.text.items c.potential_lines.new.text.items c.last_line.new.text.items (c.in_ok-first_line.ensures ∙ ap (λ t. t ++ head_line) c.new-text.ensures.items) c.in_ok-problem.ensures (c.in_ok-load_lines.ensures ∙ ap (λ a. c.problem.new.text.items ++ concat (map (λ (k : Arc × ℕ). arc_line k.0 (k.1 ∷ [])) (zip a c.args.units.now))) c.arcs.ensures.value) c.in_ok-potential_lines.ensures c.in_ok-last_line.ensures
+returns c = whole_text c.args.instance.now (Flow c.args.units.now c.args.potentials.now) c.first_line.new.text.items c.problem.new.text.items c.load_lines.new.text.items c.potential_lines.new.text.items c.last_line.new.text.items (c.in_ok-first_line.ensures ∙ ap (λ t. t ++ head_line Two) c.new-text.ensures.items) c.in_ok-problem.ensures (c.in_ok-load_lines.ensures ∙ ap (λ a. c.problem.new.text.items ++ concat (map (λ (k : Arc × ℕ). arc_line Two k.0 (k.1 ∷ [])) (zip a c.args.units.now))) c.arcs.ensures.value) c.in_ok-potential_lines.ensures c.in_ok-last_line.ensures

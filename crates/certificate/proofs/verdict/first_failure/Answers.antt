@@ -1,20 +1,13 @@
-use Rattle.std.proofs.Common.{◌<◌, ◌≤◌}
-use Rattle.plan_base.specs.declared.amount.TheConstants.{MAX}
-use Rattle.std.proofs.lemmas.List.Elements.{All-same}
-use Rattle.certificate.proofs.Loads.{All-arcs}
+use Rattle.std.proofs.Common.{Some, None, ◌∙◌}
+use Rattle.certificate.proofs.Verdicts.{order_first}
 use Rattle.certificate.proofs.verdict.first_failure.Goals as goal
 
-pub check_flow-requires-clause-froms : goal.check_flow-requires-clause-froms
-check_flow-requires-clause-froms c = All-same (λ l. l.0.from < c.cert.inside.problem.nodes) _ _ c.deref.ensures.value (All-arcs (λ a. a.from < c.cert.inside.problem.nodes) c.cert.inside.loads.items c.cert.invariant.0.ranges.ends.froms)
+pub returns-in-Some-clause-verdict : goal.returns-in-Some-clause-verdict
+returns-in-Some-clause-verdict c =
+    let found = rw c.deref.ensures.value at c.in-Some.ensures.value in
+    order_first c.args.cert.now c.cert.inside.problem c.cert.inside.loads.items c.cert.inside.evidence (Some c.in-Some.i) c.cert.view_is c.cert.invariant.1 found
 
-pub check_flow-requires-clause-tos : goal.check_flow-requires-clause-tos
-check_flow-requires-clause-tos c = All-same (λ l. l.0.to < c.cert.inside.problem.nodes) _ _ c.deref.ensures.value (All-arcs (λ a. a.to < c.cert.inside.problem.nodes) c.cert.inside.loads.items c.cert.invariant.0.ranges.ends.tos)
-
-pub check_cut-requires-clause-froms : goal.check_cut-requires-clause-froms
-check_cut-requires-clause-froms c = All-same (λ l. l.0.from < c.cert.inside.problem.nodes) _ _ c.deref-in-Side.ensures.value (All-arcs (λ a. a.from < c.cert.inside.problem.nodes) c.cert.inside.loads.items c.cert.invariant.0.ranges.ends.froms)
-
-pub check_cut-requires-clause-tos : goal.check_cut-requires-clause-tos
-check_cut-requires-clause-tos c = All-same (λ l. l.0.to < c.cert.inside.problem.nodes) _ _ c.deref-in-Side.ensures.value (All-arcs (λ a. a.to < c.cert.inside.problem.nodes) c.cert.inside.loads.items c.cert.invariant.0.ranges.ends.tos)
-
-pub check_cut-requires-clause-rooms : goal.check_cut-requires-clause-rooms
-check_cut-requires-clause-rooms c = All-same (λ l. l.0.room ≤ MAX) _ _ c.deref-in-Side.ensures.value (All-arcs (λ a. a.room ≤ MAX) c.cert.inside.loads.items (λ k d l. (c.cert.invariant.0.ranges.good_arcs k d l).most_room))
+pub returns-clause-verdict : goal.returns-clause-verdict
+returns-clause-verdict c =
+    let found = rw c.deref.ensures.value at c.in_default.ensures.value in
+    c.first_gap.ensures.verdict ∙ order_first c.args.cert.now c.cert.inside.problem c.cert.inside.loads.items c.cert.inside.evidence None c.cert.view_is c.cert.invariant.1 found

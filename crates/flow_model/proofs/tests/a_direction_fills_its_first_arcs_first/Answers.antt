@@ -32,8 +32,8 @@ one_direction = record {
     some_demand = omega arith;
     most_demand = omega arith;
     good_arcs = both IsGoodArc
-        record { apart = λ e. omega arith; some_room = omega arith; most_room = omega arith; some_cost = omega arith; most_cost = omega arith }
-        record { apart = λ e. omega arith; some_room = omega arith; most_room = omega arith; some_cost = omega arith; most_cost = omega arith };
+        record { apart = λ e. omega arith; some_room = omega arith; most_room = omega arith; some_cost = omega arith; most_cost = omega arith; direction = omega arith }
+        record { apart = λ e. omega arith; some_room = omega arith; most_room = omega arith; some_cost = omega arith; most_cost = omega arith; direction = omega arith };
   };
   dearer = AllPairs-cons Dearer first (second ∷ []) (All-cons (Dearer first) second [] (λ _. (refl, refl, omega arith)) (All-nil (Dearer first))) (AllPairs-cons Dearer second [] (All-nil (Dearer second)) (λ i j d l k. absurd (omega arith)));
   together = λ i j k d l m n e. absurd (omega arith);

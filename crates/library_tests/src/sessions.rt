@@ -1,8 +1,8 @@
-use crate::{answer_of, ask_loop};
 use askrene_state::{Command, State};
 use one_history::{JOURNAL_MAX, Journal, Machine};
 use port_io::{MemClock, MemSink, MemSource, SessionEnd};
 use rpc_lines::{Id, Reply, write_reply};
+use session::{answer_of, ask_loop};
 use std::alloc::Global;
 use std::test::Fail;
 

@@ -1,9 +1,9 @@
 ghost use Rattle.std.specs.Prelude.{IfSome};
 ghost use Rattle.askrene_command.specs.Command.{IsGoodCommand};
 
-use super::*;
 use askrene_command::Command;
 use layer::Update;
+use params::{CommandFault, command_of, method_of, params_of};
 use plan_base::NoMemory;
 use rpc_lines::{Request, read_request};
 use std::alloc::Global;

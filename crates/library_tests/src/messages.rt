@@ -1,6 +1,6 @@
 //! What lines are read as, and the bytes of replies.
-use crate::{Body, Id, Reply, RpcFault, read_request, write_reply};
 use plan_base::Text;
+use rpc_lines::{Body, Id, Reply, RpcFault, read_request, write_reply};
 use serde_json::{Value, json};
 use std::alloc::{AllocError, Global};
 use std::test::Fail;

@@ -1,7 +1,10 @@
 //! The lines of replies.
-use super::*;
 use askrene_command::{EventReply, Listed, Refusal};
 use layer::{Bias, Bound, Constraint, Created, Layer, Name, Update};
+use plan_answer::{
+    event_body, invalid_params, invalid_request, journal_full, line_too_long, method_not_found,
+    out_of_memory, out_of_memory_at, parse_error,
+};
 use plan_base::{Dir, Items, NoMemory, NodeId, Reservation, Scid};
 use rpc_lines::{Body, Id, Reply, write_reply};
 use std::alloc::Global;

@@ -1,11 +1,12 @@
 ghost use Rattle.std.specs.Prelude.{◌≡◌, IfSome};
 ghost use Rattle.askrene_command.specs.Command.{IsGoodCommand, IsGoodPath};
 
-use crate::{Command, EventReply, Inform, Refusal, State};
+use askrene_state::{Command, EventReply, Inform, Refusal, State};
 use layer::Name;
 use one_history::Object;
 use plan_base::{Dir, Held, Items, Reservation};
 use std::alloc::Global;
+use std::thread::{self, Threads};
 
 fn held() -> Option<Held>
     ensures { IfSome result (λ held. held.amount ≡ 5) }
@@ -146,4 +147,17 @@ fn steps(rt: HostRuntime) {
     assert!(rt; reserved_and_kept(rt.alloc()) == Some(true));
     assert!(rt; created_once(rt.alloc()) == Some(true));
     assert!(rt; refused_when_full(rt.alloc()) == Some(true));
+}
+
+// Passes a state to another thread by value, and one by reference.
+fn layers_elsewhere<R: Threads + Sync>(rt: &R, state: &State, moved: State) -> (usize, usize) {
+    thread::join(rt, || state.layers(), move || moved.layers())
+}
+
+#[test]
+fn between_threads(rt: HostRuntime) {
+    let (Ok(state), Ok(moved)) = (State::fresh(rt.alloc()), State::fresh(rt.alloc())) else {
+        return assert!(rt; false);
+    };
+    assert!(rt; layers_elsewhere(&rt, &state, moved) == (0, 0));
 }
