@@ -1,0 +1,9 @@
+pub mod EntrySlots
+pub mod Gathering
+pub mod Listing
+pub mod Texts
+pub mod Ascending
+pub mod Turning
+pub mod Readings
+pub mod Search
+pub mod Good

@@ -1,0 +1,43 @@
+ghost use Rattle.std.specs.Prelude.{◌≡◌, None, length, IfOk};
+ghost use Rattle.std.specs.List.Sorted.{IsPermutation};
+ghost use Rattle.channel_map.specs.Edge.{IsAscending};
+ghost use Rattle.channel_map.specs.Reading.{first_repeated, nodes_of};
+
+use crate::edge::Edge;
+use indexmap::IndexSet;
+use plan_base::{Dir, NoMemory, NodeId};
+use std::alloc::Global;
+
+/// The first direction that an earlier one equals.
+pub(crate) fn first_repeated(alloc: Global, edges: &[Edge]) -> Result<Option<Dir>, NoMemory>
+    ensures { IfOk result (λ dir. dir ≡ first_repeated edges.now) }
+{
+    let mut seen: IndexSet<Dir> = IndexSet::with_capacity(alloc, edges.len())?;
+    for edge in edges {
+        if !seen.insert(edge.dir)? {
+            return Ok(Some(edge.dir));
+        }
+    }
+    Ok(None)
+}
+
+/// How many nodes are ends of the directions.
+pub(crate) fn count_nodes(alloc: Global, edges: &[Edge]) -> Result<usize, NoMemory>
+    ensures { IfOk result (λ count. count ≡ length (nodes_of edges.now)) }
+{
+    let mut nodes: IndexSet<NodeId> = IndexSet::new(alloc);
+    for edge in edges {
+        nodes.insert(edge.source)?;
+        nodes.insert(edge.destination)?;
+    }
+    Ok(nodes.len())
+}
+
+/// Puts directions, none of which occurs twice, into ascending order.
+pub(crate) fn sort(edges: &mut Vec<Edge>)
+    requires { first_repeated edges.old.items ≡ None }
+    ensures same { IsPermutation edges.old.items edges.new.items }
+    ensures ascending { IsAscending edges.new.items }
+{
+    edges.sort_unstable_by_key(|edge| edge.dir);
+}

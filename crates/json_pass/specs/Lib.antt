@@ -1,0 +1,4 @@
+pub mod Value
+pub mod Leaf
+pub mod Members
+pub mod Loops

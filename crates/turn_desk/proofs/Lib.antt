@@ -1,0 +1,14 @@
+pub mod Lists
+pub mod Prefixes
+pub mod Numbers
+pub mod Entries
+pub mod Whole
+pub mod Changes
+pub mod Turns
+pub mod Commits
+pub mod Openings
+pub mod Splits
+pub mod Joins
+pub mod Learning
+pub mod Calls
+pub mod Closings
