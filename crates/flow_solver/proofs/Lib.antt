@@ -1,0 +1,12 @@
+pub mod Order
+pub mod Trees
+pub mod Push
+pub mod Routes
+pub mod Raising
+pub mod Cutting
+pub mod Answers
+pub mod Tries
+pub mod Walks
+pub mod Advances
+pub mod Outgoing
+pub mod Queues

@@ -1,0 +1,99 @@
+ghost use Rattle.std.specs.Prelude.{◌≡◌, ◌<◌, ◌≤◌, ℕ, Bool, IfOk, IsFalse, IsTrue, length};
+ghost use Rattle.flow_solver.specs.declared.labels.TheConstants.{UNREACHED};
+ghost use Rattle.flow_solver.specs.Search.{HasBoundedPotentials, IsFlowShown, IsNextOfDirection, IsRelaxedTo, IsSearchResult, IsSearchTree, IsSettledBelow, sum_of_labels};
+
+use crate::labels::{SearchTree, UNREACHED, first_tree};
+use crate::steps::try_step;
+use crate::successive::{Search, solve_by};
+use flow_model::{Instance, Solve, Solved};
+use plan_base::NoMemory;
+use residual_net::Residual;
+use std::alloc::Global;
+
+/// Successive shortest paths with label correcting: each search passes over all arcs until no step lowers a label
+/// (Bellman 1958; Ford 1956).
+///
+/// A search takes time in proportion to nodes times arcs, and no memory beside the tree. Prefer it for very small
+/// networks, and as the simplest solver to read; prefer `Keeping` for all others.
+#[derive(Clone, Copy, Debug)]
+pub struct Correcting;
+
+/// Lowers labels by the steps over an arc; whether any was lowered.
+fn try_arc(
+    residual: &Residual,
+    potentials: &[i128],
+    labels: &mut [u128],
+    parents: &mut [(u32, bool)],
+    i: u32,
+) -> bool
+    requires known { i < length residual.now.net.arcs }
+    requires bounded { HasBoundedPotentials residual.now.net potentials.now }
+    requires shown { IsFlowShown residual.now potentials.now }
+    requires tree { IsSearchTree residual.now potentials.now labels.old parents.old }
+    ensures tree { IsSearchTree residual.now potentials.now labels.new parents.new }
+    ensures less { IsTrue result → sum_of_labels labels.new < sum_of_labels labels.old }
+    ensures same { IsFalse result → labels.new ≡ labels.old }
+    ensures relaxed { IsFalse result → (back : Bool) → IsNextOfDirection residual.now.net.arcs residual.now.flow i back → IsRelaxedTo residual.now.net.arcs potentials.now labels.old UNREACHED i back }
+{
+    let forward = try_step(residual, potentials, labels, parents, i, false, UNREACHED);
+    let backward = try_step(residual, potentials, labels, parents, i, true, UNREACHED);
+    forward || backward
+}
+
+/// Lowers labels by the steps over each arc; whether any was lowered.
+fn pass(
+    residual: &Residual,
+    potentials: &[i128],
+    labels: &mut [u128],
+    parents: &mut [(u32, bool)],
+) -> bool
+    requires bounded { HasBoundedPotentials residual.now.net potentials.now }
+    requires shown { IsFlowShown residual.now potentials.now }
+    requires tree { IsSearchTree residual.now potentials.now labels.old parents.old }
+    ensures tree { IsSearchTree residual.now potentials.now labels.new parents.new }
+    ensures less { IsTrue result → sum_of_labels labels.new < sum_of_labels labels.old }
+    ensures settled { IsFalse result → (bound : ℕ) → IsSettledBelow residual.now potentials.now labels.new bound }
+{
+    let mut changed = false;
+    for i in 0..residual.arcs().len() as u32 {
+        if try_arc(residual, potentials, labels, parents, i) {
+            changed = true;
+        }
+    }
+    changed
+}
+
+/// Lowers labels until no step lowers one.
+fn correct(
+    residual: &Residual,
+    potentials: &[i128],
+    labels: &mut [u128],
+    parents: &mut [(u32, bool)],
+)
+    requires bounded { HasBoundedPotentials residual.now.net potentials.now }
+    requires shown { IsFlowShown residual.now potentials.now }
+    requires tree { IsSearchTree residual.now potentials.now labels.old parents.old }
+    ensures { IsSearchResult residual.now potentials.now labels.new parents.new }
+{
+    while pass(residual, potentials, labels, parents) {}
+}
+
+impl Search for Correcting {
+    fn search(
+        &self,
+        alloc: Global,
+        instance: &Instance,
+        residual: &Residual,
+        potentials: &[i128],
+    ) -> Result<SearchTree, NoMemory> {
+        let mut tree = first_tree(alloc, instance)?;
+        correct(residual, potentials, &mut tree.labels, &mut tree.parents);
+        Ok(tree)
+    }
+}
+
+impl Solve for Correcting {
+    fn solve(&self, alloc: Global, instance: &Instance) -> Result<Solved, NoMemory> {
+        solve_by(self, alloc, instance)
+    }
+}

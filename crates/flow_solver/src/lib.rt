@@ -1,0 +1,16 @@
+//! Solvers of cheapest flows. Each sends units along one cheapest path after another until the demand is met, and
+//! returns a flow with potentials that show it cheapest, or a side that shows that no flow is feasible.
+#![tactic(auto)]
+
+mod advance;
+mod correcting;
+mod keeping;
+mod labels;
+mod queue;
+mod steps;
+mod successive;
+#[cfg(test)]
+mod tests;
+
+pub use correcting::Correcting;
+pub use keeping::Keeping;
