@@ -1,0 +1,4 @@
+pub mod Path
+pub mod Walk
+pub mod Edges
+pub mod Parts
