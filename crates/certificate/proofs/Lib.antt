@@ -17,4 +17,5 @@ pub mod Found
 pub mod Verdicts
 pub mod Printed
 pub mod Passes
+pub mod Sorted
 pub mod Ascii

@@ -5,4 +5,5 @@ pub mod Cert
 pub mod Reading
 pub mod Fault
 pub mod Check
+pub mod Order
 pub mod Laws

@@ -6,6 +6,7 @@ mod balance;
 mod cert;
 mod digits;
 mod fault;
+mod instance;
 mod law;
 mod limits;
 mod line;

@@ -10,9 +10,9 @@ use Rattle.std.proofs.lemmas.Bool.Decides.{nat_tests}
 use Rattle.std.proofs.lemmas.List.{get_or-map, length-map}
 use Rattle.std.proofs.lemmas.List.Sorted.{IsPermutation-map}
 use Rattle.std.proofs.lemmas.Map.Keys.{IsDistinct-push, IsDistinct-IsPermutation, apart_from_distinct, sorted_from_all_adjacent}
-use Rattle.plan_base.specs.Dir.{Direction, same_dir}
+use Rattle.plan_base.specs.Dir.{Direction, same_dir, dir_order}
 use Rattle.channel_map.specs.declared.edge.Edge.{Edge}
-use Rattle.channel_map.specs.Edge.{dir_order, directions_of, IsAscending}
+use Rattle.channel_map.specs.Edge.{directions_of, IsAscending}
 use Rattle.channel_map.specs.Reading.{repeated_after, first_repeated}
 
 IsDistinct-nil : (e : Direction → Direction → Bool) → IsDistinct e []

@@ -10,9 +10,9 @@ use Rattle.std.proofs.lemmas.List.{get_or-map, length-map}
 use Rattle.std.proofs.lemmas.List.Sorted.{searchable_from_sorted, All-permutation, length_permutation}
 use Rattle.std.proofs.lemmas.Map.Keys.{Less-from_sorted, sorted_tail, sorted_from_all_adjacent}
 use Rattle.std.proofs.lemmas.List.Elements.{All-nil}
-use Rattle.plan_base.specs.Dir.{Direction, same_dir}
+use Rattle.plan_base.specs.Dir.{Direction, same_dir, dir_order}
 use Rattle.channel_map.specs.declared.edge.Edge.{Edge}
-use Rattle.channel_map.specs.Edge.{dir_order, directions_of, IsAscending, IsGoodEdge, IsGoodMap}
+use Rattle.channel_map.specs.Edge.{directions_of, IsAscending, IsGoodEdge, IsGoodMap}
 use Rattle.channel_map.specs.Listed.{edge_for}
 use Rattle.channel_map.proofs.Ascending.{dir_order_total, order_of_same}
 

@@ -1,11 +1,10 @@
 -- The directions of a map: their ranges and their order.
 use Rattle.std.specs.Prelude.{◌≡◌, ◌≢◌, ℕ, ◌≤◌, List, length, map, All, if◌then◌else◌}
-use Rattle.std.specs.Ordering.{nat_cmp, ordering_then, is_lt}
+use Rattle.std.specs.Ordering.{nat_cmp, is_lt}
 use Rattle.std.specs.Cmp.Lexicographic.{slice_cmp}
-use Rattle.std.specs.declared.cmp.Ordering.{Ordering}
 use Rattle.std.specs.List.Sorted.{IsStrictlySortedBy}
 use Rattle.plan_base.specs.declared.amount.TheConstants.{MAX}
-use Rattle.plan_base.specs.Dir.{Direction}
+use Rattle.plan_base.specs.Dir.{Direction, dir_order}
 use Rattle.channel_map.specs.declared.edge.Edge.{Edge}
 
 -- the side of the direction from one node to another (BOLT 7): 0 if it leads from the lesser id
@@ -19,10 +18,6 @@ pub record IsGoodEdge (edge : Edge) : Type 0 where
   pub maximum_fits : edge.htlc_max ≤ MAX
   pub ends_differ : edge.source ≢ edge.destination
   pub side_fits : edge.dir.side ≡ side_between edge.source edge.destination
-
--- directions are ordered by the channel's number and then by side
-abbrev pub dir_order : Direction → Direction → Ordering
-dir_order a b = ordering_then (nat_cmp a.scid b.scid) (nat_cmp a.side b.side)
 
 abbrev pub directions_of : List Edge → List Direction
 directions_of edges = map (λ edge. edge.dir) edges

@@ -11,6 +11,14 @@ pub record Net : Type 0 where
   pub demand : ℕ
   pub arcs : List Arc
 
+-- the default of a lookup in a list of arcs
+abbrev pub no_arc : Arc
+no_arc = record { from = 0; to = 0; room = 0; cost = 0; dir = 0 }
+
+-- the arc at an index
+abbrev pub arc_at : List Arc → ℕ → Arc
+arc_at arcs i = slice_index_or arcs i no_arc
+
 -- all ends are nodes, and the destination differs from the source
 pub record IsNet (net : Net) : Type 0 where
   pub source_in : net.source < net.nodes

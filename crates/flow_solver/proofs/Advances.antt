@@ -1,6 +1,6 @@
 -- One path more: what a solver keeps from search to search.
 use Rattle.std.proofs.Common.{ℕ, zero, ◌+◌, ◌<◌, ◌≤◌, ◌≡◌, Bool, true, false, cond, List, [], ◌∷◌, sym, refl, ap, ◌∙◌, subst, ⊎_elim, arith, length}
-use Rattle.std.specs.Prelude.{All, zip, map, replicate, nat_lt, nat_eq, sum_by, slice_index, slice_index_or, ℤ, pos}
+use Rattle.std.specs.Prelude.{All, zip, map, replicate, nat_lt, nat_eq, min, sum_by, slice_index, slice_index_or, ℤ, pos}
 use Rattle.std.proofs.lemmas.Bool.{cases_lt}
 use Rattle.std.proofs.lemmas.List.{get_or-replicate, length-replicate, get_or_past, get_or-map, length-map}
 use Rattle.std.proofs.lemmas.List.Sums.{sum_by-cons}
@@ -10,10 +10,13 @@ use Rattle.flow_model.specs.Flow.{leaving, entering, loads}
 use Rattle.flow_model.specs.Potentials.{IsShown, reduced_cost}
 use Rattle.flow_model.specs.Side.{Cuts}
 use Rattle.flow_model.proofs.Balance.{at_node}
-use Rattle.residual_net.specs.Residual.{ResidualNet, IsResidualNet, arc_at, no_arc, flow_after, HasRoomFor, HasDistinctArcs, room_left}
+use Rattle.residual_net.specs.Residual.{ResidualNet, IsResidualNet, flow_after, HasRoomFor, HasDistinctArcs, room_left}
+use Rattle.flow_model.specs.Instance.{arc_at, no_arc}
 use Rattle.residual_net.proofs.Loads.{zip_from_at}
 use Rattle.residual_net.proofs.Pushed.{residual_after_push}
-use Rattle.flow_solver.specs.Search.{IsNextOfDirection, IsNextStep, parent_of, HasDepth, parent_path, IsSettledBelow, IsRaised, InOrder, IsPartialSolution, IsSearchResult, IsReachedNode}
+use Rattle.flow_solver.specs.Search.{IsNextOfDirection, IsNextStep, parent_of, HasDepth, parent_path, IsSettledBelow, IsRaised, InOrder, IsPartialSolution, IsSearchResult, IsSearchTree, IsFlowShown, HasBoundedPotentials, IsReachedNode}
+use Rattle.flow_solver.specs.Meeting.{IsLifted, IsMet}
+use Rattle.flow_solver.proofs.Lifted.{free_lifted, shown_lifted, bounded_lifted}
 use Rattle.flow_solver.proofs.Order.{full_before_forward, full_before_backward, empty_after_forward, empty_after_backward}
 use Rattle.flow_solver.proofs.Routes.{chain_short, parents_all, parents_distinct, parents_dirs, sends_more, shown_pushed, order_pushed, IsNextInOrder}
 use Rattle.flow_solver.proofs.Raising.{shown_raised, free_raised, bounded_raised}
@@ -38,7 +41,7 @@ next_in_order residual s ok order next = by s.1 next.way
     by true way = (next.known, full_before_backward residual.net.arcs residual.flow rooms ok.good.together order s.0 next.known way.0, empty_after_backward residual.net.arcs residual.flow rooms ok.good.together order s.0 next.known way)
     by false way = (next.known, full_before_forward residual.net.arcs residual.flow rooms ok.good.together order s.0 next.known way, empty_after_forward residual.net.arcs residual.flow rooms ok.good.together order s.0 next.known way.0)
 
-module _ (residual : ResidualNet) (p : List ℤ) (labels : List ℕ) (parents : List (ℕ × Bool)) (sent : ℕ) (state : IsPartialSolution residual p sent) (found : IsSearchResult residual p labels parents) (near : slice_index labels residual.net.destination < UNREACHED) where
+module _ (residual : ResidualNet) (p : List ℤ) (labels : List ℕ) (parents : List (ℕ × Bool)) (sent : ℕ) (state : IsPartialSolution residual p sent) (tree : IsSearchTree residual p labels parents) (near : slice_index labels residual.net.destination < UNREACHED) where
   ok : IsResidualNet residual
   ok = state.ok
 
@@ -47,35 +50,58 @@ module _ (residual : ResidualNet) (p : List ℤ) (labels : List ℕ) (parents : 
 
   -- a property of the steps that a search may use, for all steps of the path to the destination
   pub along : (P : ℕ × Bool → Type 0) → ((s : ℕ × Bool) → IsNextStep residual s → P s) → (k : ℕ) → HasDepth residual.net.arcs parents residual.net.source k residual.net.destination → All P (parent_path residual.net.arcs parents k residual.net.destination)
-  along P each k chain = parents_all residual p ok state.shown labels parents found.tree P UNREACHED (λ v l ne n le. each (parent_of parents v) (found.tree.steps v l ne n).next) k residual.net.destination chain t_in near (let m = found.tree.most residual.net.destination in m)
+  along P each k chain = parents_all residual p ok state.shown labels parents tree P UNREACHED (λ v l ne n le. each (parent_of parents v) (tree.steps v l ne n).next) k residual.net.destination chain t_in near (let m = tree.most residual.net.destination in m)
 
   pub traced : (k : ℕ) × (k < residual.net.nodes) × IsReachedNode residual parents k residual.net.destination
   traced =
-      let c = found.tree.rooted residual.net.destination t_in near in
-      (c.0, chain_short residual p ok state.shown labels parents found.tree c.0 residual.net.destination c.1 t_in near, record { inside = t_in; chain = c.1; known = along (λ (s : ℕ × Bool). s.0 < length residual.net.arcs) (λ s next. next.known) c.0 c.1 })
+      let c = tree.rooted residual.net.destination t_in near in
+      (c.0, chain_short residual p ok state.shown labels parents tree c.0 residual.net.destination c.1 t_in near, record { inside = t_in; chain = c.1; known = along (λ (s : ℕ × Bool). s.0 < length residual.net.arcs) (λ s next. next.known) c.0 c.1 })
 
   pub path_rooms : (path : List (ℕ × Bool)) → HasDepth residual.net.arcs parents residual.net.source (length path) residual.net.destination → path ≡ parent_path residual.net.arcs parents (length path) residual.net.destination → All (HasRoomFor residual.net.arcs residual.flow 1) path
   path_rooms path chain e = subst (All (HasRoomFor residual.net.arcs residual.flow 1)) (sym e) (along (HasRoomFor residual.net.arcs residual.flow 1) (next_room residual) (length path) chain)
 
   pub path_distinct : (path : List (ℕ × Bool)) → HasDepth residual.net.arcs parents residual.net.source (length path) residual.net.destination → path ≡ parent_path residual.net.arcs parents (length path) residual.net.destination → HasDistinctArcs path
-  path_distinct path chain e = subst HasDistinctArcs (sym e) (parents_distinct residual p ok state.shown labels parents found.tree (length path) residual.net.destination chain t_in near)
+  path_distinct path chain e = subst HasDistinctArcs (sym e) (parents_distinct residual p ok state.shown labels parents tree (length path) residual.net.destination chain t_in near)
 
-  pub advanced : (new : List ℤ) (amount : ℕ) (path : List (ℕ × Bool)) → HasDepth residual.net.arcs parents residual.net.source (length path) residual.net.destination → path ≡ parent_path residual.net.arcs parents (length path) residual.net.destination → All (HasRoomFor residual.net.arcs residual.flow amount) path → IsRaised p new labels (slice_index labels residual.net.destination) → IsPartialSolution (record { net = residual.net; flow = flow_after residual.flow amount path }) new (sent + amount)
-  advanced new amount path chain e rooms raised =
+  -- a push along steps that cost nothing under the new potentials
+  pub pushed_on : (new : List ℤ) (amount : ℕ) (path : List (ℕ × Bool)) → HasDepth residual.net.arcs parents residual.net.source (length path) residual.net.destination → path ≡ parent_path residual.net.arcs parents (length path) residual.net.destination → All (HasRoomFor residual.net.arcs residual.flow amount) path → All (λ (s : ℕ × Bool). (s.0 < length residual.net.arcs) × (reduced_cost new (arc_at residual.net.arcs s.0) ≡ pos 0)) (parent_path residual.net.arcs parents (length path) residual.net.destination) → IsFlowShown residual new → HasBoundedPotentials residual.net new → IsPartialSolution (record { net = residual.net; flow = flow_after residual.flow amount path }) new (sent + amount)
+  pushed_on new amount path chain e rooms free shown bounded =
       let k = length path in
       let t = residual.net.destination in
-      let bound = slice_index labels t in
       let on : List (ℕ × Bool) = parent_path residual.net.arcs parents k t in
-      let settled : IsSettledBelow residual p labels bound = found.settled in
       let rooms' = subst (All (HasRoomFor residual.net.arcs residual.flow amount)) e rooms in
-      let free = parents_all residual p ok state.shown labels parents found.tree (λ s. (s.0 < length residual.net.arcs) × (reduced_cost new (arc_at residual.net.arcs s.0) ≡ pos 0)) bound (λ v l ne n le. free_raised residual p new ok labels bound state.bounded.long raised parents found.tree state.shown settled v l ne n le) k t chain t_in near (omega arith) in
       subst (λ (steps : List (ℕ × Bool)). IsPartialSolution (record { net = residual.net; flow = flow_after residual.flow amount steps }) new (sent + amount)) (sym e) record {
-        ok = residual_after_push residual (flow_after residual.flow amount on) amount on ok rooms' (parents_distinct residual p ok state.shown labels parents found.tree k t chain t_in near) refl;
-        sends = sends_more residual p ok state.shown labels parents found.tree amount sent k state.sends chain near rooms';
-        shown = shown_pushed new residual.net.arcs amount on residual.flow ok.long free (shown_raised residual p new ok labels bound state.bounded.long raised state.shown settled);
-        bounded = bounded_raised residual p new ok labels bound state.bounded.long raised parents found.tree state.shown settled state.bounded refl near;
-        order = order_pushed residual.net.arcs amount on residual.flow ok.long (parents_dirs residual p ok state.shown labels parents found.tree k t chain t_in near) (along (IsNextInOrder residual.net.arcs residual.flow) (λ s next. next_in_order residual s ok state.order next) k chain) state.order;
+        ok = residual_after_push residual (flow_after residual.flow amount on) amount on ok rooms' (parents_distinct residual p ok state.shown labels parents tree k t chain t_in near) refl;
+        sends = sends_more residual p ok state.shown labels parents tree amount sent k state.sends chain near rooms';
+        shown = shown_pushed new residual.net.arcs amount on residual.flow ok.long free shown;
+        bounded = bounded;
+        order = order_pushed residual.net.arcs amount on residual.flow ok.long (parents_dirs residual p ok state.shown labels parents tree k t chain t_in near) (along (IsNextInOrder residual.net.arcs residual.flow) (λ s next. next_in_order residual s ok state.order next) k chain) state.order;
       }
+
+-- after a search from the source, with potentials raised by its labels
+pub advanced : (residual : ResidualNet) (p : List ℤ) (labels : List ℕ) (parents : List (ℕ × Bool)) (sent : ℕ) → IsPartialSolution residual p sent → IsSearchResult residual p labels parents → slice_index labels residual.net.destination < UNREACHED → (new : List ℤ) (amount : ℕ) (path : List (ℕ × Bool)) → HasDepth residual.net.arcs parents residual.net.source (length path) residual.net.destination → path ≡ parent_path residual.net.arcs parents (length path) residual.net.destination → All (HasRoomFor residual.net.arcs residual.flow amount) path → IsRaised p new labels (slice_index labels residual.net.destination) → IsPartialSolution (record { net = residual.net; flow = flow_after residual.flow amount path }) new (sent + amount)
+advanced residual p labels parents sent state found near new amount path chain e rooms raised =
+    let t = residual.net.destination in
+    let bound = slice_index labels t in
+    let t_in' = state.ok.good.ranges.ends.destination_in in
+    let free = parents_all residual p state.ok state.shown labels parents found.tree (λ s. (s.0 < length residual.net.arcs) × (reduced_cost new (arc_at residual.net.arcs s.0) ≡ pos 0)) bound (λ v l ne n le. free_raised residual p new state.ok labels bound state.bounded.long raised parents found.tree state.shown found.settled v l ne n le) (length path) t chain t_in' near (omega arith) in
+    pushed_on residual p labels parents sent state found.tree near new amount path chain e rooms free
+    (shown_raised residual p new state.ok labels bound state.bounded.long raised state.shown found.settled)
+    (bounded_raised residual p new state.ok labels bound state.bounded.long raised parents found.tree state.shown found.settled state.bounded refl near)
+
+-- labels that are the same below a bound lift the potentials in the same way
+lifted_kept : (p new : List ℤ) (d labels e : List ℕ) (a b : ℕ) → ((x : ℕ) → min (slice_index labels x) a ≡ min (slice_index d x) a) → IsLifted p new labels e a b → IsLifted p new d e a b
+lifted_kept p new d labels e a b kept lifted = record { long = lifted.long; each = λ v l. let h = lifted.each v l in let k = kept v in omega (arith, ints, h, k) }
+
+-- after a search from both ends, with potentials lifted by its labels
+pub met_advanced : (residual : ResidualNet) (p : List ℤ) (d labels : List ℕ) (parents : List (ℕ × Bool)) (e : List ℕ) (a b best sent : ℕ) → IsPartialSolution residual p sent → IsMet residual p d e a b best → IsSearchTree residual p labels parents → best < UNREACHED → slice_index labels residual.net.destination ≤ best → ((x : ℕ) → min (slice_index labels x) a ≡ min (slice_index d x) a) → (new : List ℤ) (amount : ℕ) (path : List (ℕ × Bool)) → HasDepth residual.net.arcs parents residual.net.source (length path) residual.net.destination → path ≡ parent_path residual.net.arcs parents (length path) residual.net.destination → All (HasRoomFor residual.net.arcs residual.flow amount) path → IsLifted p new labels e a b → IsPartialSolution (record { net = residual.net; flow = flow_after residual.flow amount path }) new (sent + amount)
+met_advanced residual p d labels parents e a b best sent state met tree reached short kept new amount path chain is rooms lifted' =
+    let lifted = lifted_kept p new d labels e a b kept lifted' in
+    let near : slice_index labels residual.net.destination < UNREACHED = omega (arith, short, reached) in
+    pushed_on residual p labels parents sent state tree near new amount path chain is rooms
+    (free_lifted residual p new state.ok state.shown state.bounded d e a b best met lifted labels parents tree near short (length path) chain)
+    (shown_lifted residual p new state.ok state.shown state.bounded d e a b best met lifted)
+    (bounded_lifted residual p new state.ok state.shown state.bounded d e a b best met lifted labels parents tree near short (length path) chain)
 
 -- the flow of no units
 none_sum : (end : Arc → ℕ) (v : ℕ) (arcs : List Arc) → sum_by (λ (l : Arc × ℕ). at_node (end l.0) l.1 v) (zip arcs (replicate {A = ℕ} (length arcs) 0)) ≡ zero

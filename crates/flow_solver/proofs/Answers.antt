@@ -7,12 +7,12 @@ use Rattle.std.proofs.lemmas.List.Sums.{sum_by-cons}
 use Rattle.std.proofs.lemmas.Slice.Zip.{get_or-zip, length-zip}
 use Rattle.std.proofs.lemmas.Int.{ints}
 use Rattle.flow_model.specs.declared.instance.Arc.{Arc}
-use Rattle.flow_model.specs.Instance.{Net}
+use Rattle.flow_model.specs.Instance.{Net, arc_at, no_arc}
 use Rattle.flow_model.specs.Flow.{FillsFirst, IsFilledInOrder, IsCheapest, units_of, flow_of, Sends}
 use Rattle.flow_model.specs.Potentials.{IsSmall, ShowsCheapest}
 use Rattle.flow_model.proofs.Balance.{at_node, at_node-same, at_node-other}
 use Rattle.flow_model.proofs.Filled.{flow_of-same}
-use Rattle.residual_net.specs.Residual.{ResidualNet, IsResidualNet, arc_at, no_arc}
+use Rattle.residual_net.specs.Residual.{ResidualNet, IsResidualNet}
 use Rattle.residual_net.proofs.Loads.{get_or-any}
 use Rattle.residual_net.proofs.Pushed.{AllPairs-head, AllPairs-tail}
 use Rattle.flow_solver.specs.Search.{InOrder, HasBoundedPotentials, IsFlowShown, IsPartialSolution}

@@ -7,12 +7,12 @@ use Rattle.std.proofs.lemmas.List.Elements.{All-head, All-tail}
 use Rattle.std.proofs.lemmas.List.Sums.{sum_by-cons}
 use Rattle.std.proofs.lemmas.Int.{ints}
 use Rattle.flow_model.specs.declared.instance.Arc.{Arc}
-use Rattle.flow_model.specs.Instance.{Net, IsNet}
+use Rattle.flow_model.specs.Instance.{Net, IsNet, arc_at, no_arc}
 use Rattle.flow_model.specs.Flow.{Sends, loads}
 use Rattle.flow_model.specs.Side.{Cuts, on_side, crossing}
 use Rattle.flow_model.proofs.Balance.{out_sum, in_sum, balanced}
 use Rattle.flow_model.proofs.Duality.{inside}
-use Rattle.residual_net.specs.Residual.{ResidualNet, IsResidualNet, arc_at, no_arc}
+use Rattle.residual_net.specs.Residual.{ResidualNet, IsResidualNet}
 use Rattle.residual_net.proofs.Loads.{zip_from_at, fits_at}
 use Rattle.flow_solver.specs.Search.{tail_of, head_of, step_cost, IsNextStep, IsSearchTree, IsFlowShown, IsSettledBelow, HasBoundedPotentials}
 use Rattle.flow_solver.proofs.Order.{all_forward, all_backward}

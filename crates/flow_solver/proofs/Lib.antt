@@ -7,6 +7,12 @@ pub mod Cutting
 pub mod Answers
 pub mod Tries
 pub mod Walks
+pub mod Lifted
 pub mod Advances
 pub mod Outgoing
+pub mod Firsts
+pub mod Turned
 pub mod Queues
+pub mod Seen
+pub mod Carried
+pub mod Sides

@@ -4,8 +4,7 @@ use Rattle.std.specs.Prelude.{All, AllPairs, zip, set, slice_index}
 use Rattle.std.proofs.lemmas.Bool.{cases_eq, cases_lt}
 use Rattle.std.proofs.lemmas.List.{get_or-set_other}
 use Rattle.flow_model.specs.declared.instance.Arc.{Arc}
-use Rattle.flow_model.specs.Instance.{Dearer, StandTogether}
-use Rattle.residual_net.specs.Residual.{arc_at, no_arc}
+use Rattle.flow_model.specs.Instance.{Dearer, StandTogether, arc_at, no_arc}
 use Rattle.flow_solver.specs.Search.{InOrder, IsNextForward, IsNextBackward}
 
 -- two arcs of one direction have the same ends

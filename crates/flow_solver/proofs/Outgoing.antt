@@ -4,7 +4,8 @@ use Rattle.std.specs.Prelude.{All, Contains, nat_eq}
 use Rattle.std.proofs.lemmas.Bool.{eq-eqb, eqb-true}
 use Rattle.std.proofs.lemmas.List.Elements.{All-append, All-cons, All-nil, All-weaker, Contains-append_left, Contains-append_right}
 use Rattle.flow_model.specs.declared.instance.Arc.{Arc}
-use Rattle.residual_net.specs.Residual.{arc_at, steps_from, steps_out}
+use Rattle.residual_net.specs.Residual.{steps_from, steps_out}
+use Rattle.flow_model.specs.Instance.{arc_at}
 use Rattle.flow_solver.specs.Search.{tail_of}
 
 -- the step is over the arc at a place, and starts at the node

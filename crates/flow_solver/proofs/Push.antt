@@ -7,7 +7,8 @@ use Rattle.std.proofs.lemmas.Int.{ints}
 use Rattle.flow_model.specs.declared.instance.Arc.{Arc}
 use Rattle.flow_model.specs.Flow.{leaving, entering}
 use Rattle.flow_model.proofs.Balance.{at_node}
-use Rattle.residual_net.specs.Residual.{arc_at, no_arc, units_after, room_left}
+use Rattle.residual_net.specs.Residual.{units_after, room_left}
+use Rattle.flow_model.specs.Instance.{arc_at, no_arc}
 use Rattle.flow_solver.specs.Search.{tail_of, head_of}
 
 pub zip-set : (xs : List Arc) (ys : List ℕ) (i y : ℕ) → i < length xs → zip xs (set ys i y) ≡ set (zip xs ys) i (arc_at xs i, y)

@@ -1,23 +1,19 @@
 -- The queue of a search in the order of labels.
-use Rattle.std.proofs.Common.{ℕ, zero, suc, ◌+◌, ◌^◌, ◌%◌, ◌<◌, ◌≤◌, ◌≡◌, Bool, false, List, [], ◌∷◌, sym, refl, ap, ◌∙◌, subst, ⊎_elim, inl, inr, arith, length}
-use Rattle.std.specs.Prelude.{All, Contains, replicate, set, min, slice_index, slice_index_or, IsTrue, IsFalse, ◌≢◌, ℤ, pos, ◌≤ℤ◌}
+use Rattle.std.proofs.Common.{ℕ, zero, suc, ◌+◌, ◌^◌, ◌%◌, ◌<◌, ◌≤◌, ◌≡◌, Bool, List, [], ◌∷◌, sym, refl, ap, ◌∙◌, subst, ⊎_elim, inl, inr, arith, length}
+use Rattle.std.specs.Prelude.{Contains, replicate, set, min, slice_index, IsTrue, IsFalse, ◌≢◌, ℤ, pos, ◌≤ℤ◌}
 use Rattle.std.specs.List.Sorted.{IsPermutation}
-use Rattle.std.specs.List.{AllByRecursion}
-use Rattle.std.specs.BinaryHeap.{IsHeap, IsUpperBound, KeepsHeap}
-use Rattle.std.specs.Ordering.{is_lt, nat_cmp}
-use Rattle.std.proofs.lemmas.Bool.{cases_eq, cases_lt}
+use Rattle.std.specs.BinaryHeap.{KeepsHeap}
+use Rattle.std.specs.Ordering.{nat_cmp}
+use Rattle.std.proofs.lemmas.Bool.{cases_eq}
 use Rattle.std.proofs.lemmas.List.{get_or-set_same, get_or-set_other}
 use Rattle.std.proofs.lemmas.List.Sums.{sum_by-set}
 use Rattle.std.proofs.lemmas.List.Sorted.{Contains-permutation, length_permutation}
-use Rattle.std.proofs.lemmas.Map.Keys.{ge_from_not_lt}
 use Rattle.std.proofs.lemmas.Int.{ints}
 use Rattle.flow_model.specs.declared.instance.Arc.{Arc}
-use Rattle.residual_net.specs.Residual.{ResidualNet, IsResidualNet, arc_at, steps_out}
-use Rattle.flow_solver.specs.Search.{IsNextOfDirection, IsRelaxedTo, IsSettledBelow, IsSearchTree, head_of, step_cost, sum_of_labels, tail_of, IsLowered}
+use Rattle.residual_net.specs.Residual.{ResidualNet, IsResidualNet}
+use Rattle.flow_model.specs.Instance.{arc_at}
+use Rattle.flow_solver.specs.Search.{IsRelaxedTo, IsSearchTree, head_of, step_cost, sum_of_labels, tail_of, IsLowered}
 use Rattle.flow_solver.specs.Queue.{key_of, IsRelaxedFrom, IsQueue, IsQueueProgress}
-use Rattle.residual_net.proofs.Loads.{get_or-any}
-use Rattle.flow_solver.proofs.Outgoing.{out_all, out_tails}
-use Rattle.flow_solver.proofs.Trees.{tail_in}
 use Rattle.flow_solver.specs.declared.labels.TheConstants.{UNREACHED}
 use Rattle.flow_solver.proofs.Tries.{first_near}
 
@@ -83,66 +79,44 @@ grows_lowered labels keys new newer w cand key l less is key_is moved heap = rec
     other x ne = ap (λ ls. slice_index ls x) is ∙ get_or-set_other labels w x cand 0 (λ f. ne (sym f))
 
 -- a relaxed step stays relaxed while its start keeps its label
-pub relaxed_kept : (arcs : List Arc) (p : List ℤ) (labels new : List ℕ) (t i : ℕ) (back : Bool) → ((x : ℕ) → slice_index new x ≤ slice_index labels x) → slice_index new (tail_of (arc_at arcs i) back) ≡ slice_index labels (tail_of (arc_at arcs i) back) → IsRelaxedTo arcs p labels (slice_index labels t) i back → IsRelaxedTo arcs p new (slice_index new t) i back
-relaxed_kept arcs p labels new t i back lower same h =
+pub relaxed_kept : (arcs : List Arc) (p : List ℤ) (labels new : List ℕ) (bound less i : ℕ) (back : Bool) → less ≤ bound → ((x : ℕ) → slice_index new x ≤ slice_index labels x) → slice_index new (tail_of (arc_at arcs i) back) ≡ slice_index labels (tail_of (arc_at arcs i) back) → IsRelaxedTo arcs p labels bound i back → IsRelaxedTo arcs p new less i back
+relaxed_kept arcs p labels new bound less i back b lower same h =
     let a = lower (head_of (arc_at arcs i) back) in
-    let b = lower t in
     omega (arith, ints, h, a, b, same)
 
-module _ (residual : ResidualNet) (p : List ℤ) (ok : IsResidualNet residual) (labels keys : List ℕ) (queue : IsQueue residual p labels keys) where
+-- a lower bound keeps the queue
+pub queue_bound : (residual : ResidualNet) (p : List ℤ) (labels keys : List ℕ) (bound less : ℕ) → less ≤ bound → IsQueue residual p labels bound keys → IsQueue residual p labels less keys
+queue_bound residual p labels keys bound less le queue v l near = ⊎_elim
+    (λ (c : Contains keys (key_of (slice_index labels v) v)). inl c)
+    (λ (r : IsRelaxedFrom residual p labels bound v). inr (λ s next tail. relaxed_kept residual.net.arcs p labels labels bound less s.0 s.1 le (λ x. omega arith) refl (r s next tail)))
+    (queue v l near)
+
+module _ (residual : ResidualNet) (p : List ℤ) (ok : IsResidualNet residual) (labels keys : List ℕ) (bound : ℕ) (queue : IsQueue residual p labels bound keys) where
   small : (v : ℕ) → v < residual.net.nodes → v < 2 ^ 24
   small v l = let few = ok.good.ranges.few_nodes in omega (arith, l, few)
 
   -- an outdated key may be dropped
-  pub queue_stale : (key : ℕ) (left : List ℕ) → IsPermutation keys (key ∷ left) → ((u : ℕ) → u < residual.net.nodes → key ≢ key_of (slice_index labels u) u) → IsQueue residual p labels left
+  pub queue_stale : (key : ℕ) (left : List ℕ) → IsPermutation keys (key ∷ left) → ((u : ℕ) → u < residual.net.nodes → key ≢ key_of (slice_index labels u) u) → IsQueue residual p labels bound left
   queue_stale key left moved none u l near = ⊎_elim
       (λ (c : Contains keys (key_of (slice_index labels u) u)). inl (Contains-tail key (key_of (slice_index labels u) u) left (none u l) (Contains-permutation keys (key ∷ left) (key_of (slice_index labels u) u) moved c)))
-      (λ (r : IsRelaxedFrom residual p labels u). inr r)
+      (λ (r : IsRelaxedFrom residual p labels bound u). inr r)
       (queue u l near)
 
   -- the first node leaves the queue, and its steps are relaxed
-  pub queue_opened : (v : ℕ) (left new newer : List ℕ) → v < residual.net.nodes → IsPermutation keys (key_of (slice_index labels v) v ∷ left) → IsQueueProgress labels left new newer → IsRelaxedFrom residual p new v → IsQueue residual p new newer
-  queue_opened v left new newer lv moved grows relaxed u l near = ⊎_elim
-      (λ (e : u ≡ v). inr (subst (IsRelaxedFrom residual p new) (sym e) relaxed))
+  pub queue_opened : (v : ℕ) (left new newer : List ℕ) (less : ℕ) → less ≤ bound → v < residual.net.nodes → IsPermutation keys (key_of (slice_index labels v) v ∷ left) → IsQueueProgress labels left new newer → IsRelaxedFrom residual p new less v → IsQueue residual p new less newer
+  queue_opened v left new newer less le lv moved grows relaxed u l near = ⊎_elim
+      (λ (e : u ≡ v). inr (subst (IsRelaxedFrom residual p new less) (sym e) relaxed))
       (λ (ne : u ≡ v → ⊥). ⊎_elim
       (λ (same : slice_index new u ≡ slice_index labels u). ⊎_elim
       (λ (c : Contains keys (key_of (slice_index labels u) u)).
       let apart : key_of (slice_index labels v) v ≢ key_of (slice_index labels u) u = λ e. ne (sym (key_node (slice_index labels v) (slice_index labels u) v u (small v lv) (small u l) e)) in
       let c' = Contains-tail (key_of (slice_index labels v) v) (key_of (slice_index labels u) u) left apart (Contains-permutation keys (key_of (slice_index labels v) v ∷ left) (key_of (slice_index labels u) u) moved c) in
       inl (subst (λ a. Contains newer (key_of a u)) (sym same) (grows.kept (key_of (slice_index labels u) u) c')))
-      (λ (r : IsRelaxedFrom residual p labels u). inr (λ s next tail. relaxed_kept residual.net.arcs p labels new residual.net.destination s.0 s.1 grows.lower (ap (slice_index new) tail ∙ same ∙ sym (ap (slice_index labels) tail)) (r s next tail)))
+      (λ (r : IsRelaxedFrom residual p labels bound u). inr (λ s next tail. relaxed_kept residual.net.arcs p labels new bound less s.0 s.1 le grows.lower (ap (slice_index new) tail ∙ same ∙ sym (ap (slice_index labels) tail)) (r s next tail)))
       (queue u l (omega (arith, same, near))))
       (λ (c : Contains newer (key_of (slice_index new u) u)). inl c)
       (grows.others u))
       (cases_eq u v)
-
-  upper : (key k : ℕ) (xs : List ℕ) → AllByRecursion (λ y. is_lt (nat_cmp key y) ≡ false) xs → Contains xs k → k ≤ key
-  upper key k [] all (n, l, e) = absurd (omega arith)
-  upper key k (x ∷ xs) all (zero, l, e) = subst (λ y. y ≤ key) e (ge_from_not_lt key x all.0)
-  upper key k (x ∷ xs) all (suc n, l, e) = upper key k xs all.1 (n, omega arith, e)
-
-  -- if the first label is at least the destination's, all labels are settled
-  pub queue_settled : (v : ℕ) → ((x : ℕ) → slice_index labels x ≤ UNREACHED) → v < residual.net.nodes → IsUpperBound nat_cmp (key_of (slice_index labels v) v) keys → slice_index labels residual.net.destination ≤ slice_index labels v → IsSettledBelow residual p labels (slice_index labels residual.net.destination)
-  queue_settled v most lv bound far s next less =
-      let u = tail_of (arc_at residual.net.arcs s.0) s.1 in
-      let lu = tail_in residual s ok next.known in
-      let mu = most (tail_of (arc_at residual.net.arcs s.0) s.1) in
-      let mv = most v in
-      let mt = most residual.net.destination in
-      ⊎_elim
-      (λ (c : Contains keys (key_of (slice_index labels u) u)). absurd (let h = key_label (slice_index labels u) (slice_index labels v) u v mu mv (small v lv) (upper (key_of (slice_index labels v) v) (key_of (slice_index labels u) u) keys bound c) in omega (arith, h, far, less)))
-      (λ (r : IsRelaxedFrom residual p labels u). r s next refl)
-      (queue u lu (omega (arith, less, mt)))
-
-  -- if the queue is empty, all labels are settled
-  pub queue_empty : ((x : ℕ) → slice_index labels x ≤ UNREACHED) → length keys ≡ 0 → IsSettledBelow residual p labels (slice_index labels residual.net.destination)
-  queue_empty most none s next less =
-      let u = tail_of (arc_at residual.net.arcs s.0) s.1 in
-      let mt = most residual.net.destination in
-      ⊎_elim
-      (λ (c : Contains keys (key_of (slice_index labels u) u)). absurd (let l = c.1 in omega (arith, none, l)))
-      (λ (r : IsRelaxedFrom residual p labels u). r s next refl)
-      (queue u (tail_in residual s ok next.known) (omega (arith, less, mt)))
 
 -- the outcome of a step that was tried
 pub tried_lower : (residual : ResidualNet) (p : List ℤ) (labels new : List ℕ) (i tail head cost : ℕ) (back r : Bool) → tail ≡ tail_of (arc_at residual.net.arcs i) back → head ≡ head_of (arc_at residual.net.arcs i) back → pos cost ≡ step_cost p (arc_at residual.net.arcs i) back → (IsTrue r → slice_index labels tail + cost < slice_index labels head) → (IsTrue r → new ≡ set labels head (slice_index labels tail + cost)) → IsTrue r → (cand : ℕ) × IsLowered residual.net.arcs p labels new i back cand
@@ -177,52 +151,12 @@ lowered_step residual p labels new i cand back low l so =
     let head : slice_index new w ≡ cand = ap (λ ls. slice_index ls w) so.is ∙ get_or-set_same labels w cand 0 l in
     (tail, head, λ bound. omega (arith, ints, tail, head, by))
 
--- the first steps of a node are relaxed
-pub record IsOpening (residual : ResidualNet) (p : List ℤ) (old keys labels : List ℕ) (parents : List (ℕ × Bool)) (newer : List ℕ) (out : List (ℕ × Bool)) (j v : ℕ) : Type 0 where
-  pub tree : IsSearchTree residual p labels parents
-  pub grows : IsQueueProgress old keys labels newer
-  pub same : slice_index labels v ≡ slice_index old v
-  pub done : (k : ℕ) (d : ℕ × Bool) → k < j → k < length out → IsNextOfDirection residual.net.arcs residual.flow (slice_index_or out k d).0 (slice_index_or out k d).1 → IsRelaxedTo residual.net.arcs p labels (slice_index labels residual.net.destination) (slice_index_or out k d).0 (slice_index_or out k d).1
-
-pub opening_init : (residual : ResidualNet) (p : List ℤ) (labels keys : List ℕ) (parents out : List (ℕ × Bool)) (v : ℕ) → IsSearchTree residual p labels parents → IsOpening residual p labels keys labels parents keys out 0 v
-opening_init residual p labels keys parents out v tree = record { tree = tree; grows = grows_none labels keys; same = refl; done = λ k d l. absurd (omega arith) }
-
-pub opening_turn : (residual : ResidualNet) (p : List ℤ) (old keys labels new : List ℕ) (parents moved : List (ℕ × Bool)) (newer newest : List ℕ) (out : List (ℕ × Bool)) (j v : ℕ) (e : ℕ × Bool) → j < length out → out ≡ steps_out residual.net.arcs v → IsSearchTree residual p new moved → IsQueueProgress labels newer new newest → (IsNextOfDirection residual.net.arcs residual.flow (slice_index_or out j e).0 (slice_index_or out j e).1 → IsRelaxedTo residual.net.arcs p new (slice_index new residual.net.destination) (slice_index_or out j e).0 (slice_index_or out j e).1) → slice_index new (tail_of (arc_at residual.net.arcs (slice_index_or out j e).0) (slice_index_or out j e).1) ≡ slice_index labels (tail_of (arc_at residual.net.arcs (slice_index_or out j e).0) (slice_index_or out j e).1) → IsOpening residual p old keys labels parents newer out j v → IsOpening residual p old keys new moved newest out (j + 1) v
-opening_turn residual p old keys labels new parents moved newer newest out j v e l is tree grows relaxed tail so =
-    let tails = subst (All (λ (s : ℕ × Bool). tail_of (arc_at residual.net.arcs s.0) s.1 ≡ v)) (sym is) (out_tails residual.net.arcs v) in
-    let at_v : slice_index new v ≡ slice_index labels v = subst (λ w. slice_index new w ≡ slice_index labels w) (tails j e l) tail in
-    record {
-      tree = tree;
-      grows = grows_on old keys labels newer new newest so.grows grows;
-      same = at_v ∙ so.same;
-      done = λ k d kl kin way. ⊎_elim
-          (λ (less : k < j). relaxed_kept residual.net.arcs p labels new residual.net.destination (slice_index_or out k d).0 (slice_index_or out k d).1 grows.lower (ap (slice_index new) (tails k d kin) ∙ at_v ∙ sym (ap (slice_index labels) (tails k d kin))) (so.done k d less kin way))
-          (λ (ge : j ≤ k).
-          let at : j ≡ k = omega arith in
-          let same_step : slice_index_or out j e ≡ slice_index_or out k d = get_or-any out j e d l ∙ ap (λ m. slice_index_or out m d) at in
-          subst (λ (s : ℕ × Bool). IsNextOfDirection residual.net.arcs residual.flow s.0 s.1 → IsRelaxedTo residual.net.arcs p new (slice_index new residual.net.destination) s.0 s.1) same_step relaxed way)
-          (cases_lt k j);
-    }
-
-pub opening_end : (residual : ResidualNet) (p : List ℤ) (old keys labels : List ℕ) (parents : List (ℕ × Bool)) (newer : List ℕ) (out : List (ℕ × Bool)) (j v : ℕ) → length out ≤ j → out ≡ steps_out residual.net.arcs v → IsOpening residual p old keys labels parents newer out j v → IsRelaxedFrom residual p labels v
-opening_end residual p old keys labels parents newer out j v l is so s next tail =
-    let c = subst (λ (ss : List (ℕ × Bool)). Contains ss s) (sym is) (out_all residual.net.arcs v s next.known tail) in
-    let inside = c.1 in
-    let at : slice_index_or out c.0 s ≡ s = c.2 in
-    subst (λ (q : ℕ × Bool). IsRelaxedTo residual.net.arcs p labels (slice_index labels residual.net.destination) q.0 q.1) at (so.done c.0 s (omega (arith, inside, l)) inside (subst (λ (q : ℕ × Bool). IsNextOfDirection residual.net.arcs residual.flow q.0 q.1) (sym at) next.way))
-
 pub key_mod : (a v key : ℕ) → v < 2 ^ 24 → key ≡ key_of a v → key % 2 ^ 24 ≡ v
 key_mod a v key l e = omega (arith, e)
 
--- the invariant of the search
-pub record IsSearching (residual : ResidualNet) (p : List ℤ) (labels : List ℕ) (parents : List (ℕ × Bool)) (keys : List ℕ) : Type 0 where
-  pub tree : IsSearchTree residual p labels parents
-  pub heap : IsHeap nat_cmp keys
-  pub queue : IsQueue residual p labels keys
-
 -- the first queue contains the source and no other node
-pub first_queue : (residual : ResidualNet) (p : List ℤ) (labels keys : List ℕ) (parents : List (ℕ × Bool)) (key : ℕ) → residual.net.source < residual.net.nodes → labels ≡ set (replicate residual.net.nodes UNREACHED) residual.net.source 0 → IsSearchTree residual p labels parents → key ≡ key_of 0 residual.net.source → IsPermutation (key ∷ []) keys → IsQueue residual p labels keys
-first_queue residual p labels keys parents key in' is tree key_is moved v l near =
+pub first_queue : (residual : ResidualNet) (p : List ℤ) (labels keys : List ℕ) (parents : List (ℕ × Bool)) (key bound : ℕ) → residual.net.source < residual.net.nodes → labels ≡ set (replicate residual.net.nodes UNREACHED) residual.net.source 0 → IsSearchTree residual p labels parents → key ≡ key_of 0 residual.net.source → IsPermutation (key ∷ []) keys → IsQueue residual p labels bound keys
+first_queue residual p labels keys parents key bound in' is tree key_is moved v l near =
     let at : v ≡ residual.net.source = first_near residual.net.nodes residual.net.source in' v l (subst (λ ls. slice_index ls v < UNREACHED) is near) in
     let root = tree.root in
     inl (subst (λ w. Contains keys (key_of (slice_index labels w) w)) (sym at) (subst (λ k. Contains keys k) (key_is ∙ ap (λ a. key_of a residual.net.source) (sym root)) (Contains-permutation (key ∷ []) keys key moved (Contains-first key []))))

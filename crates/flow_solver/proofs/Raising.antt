@@ -6,7 +6,8 @@ use Rattle.std.proofs.lemmas.List.{get_or_past}
 use Rattle.std.proofs.lemmas.Int.{ints}
 use Rattle.flow_model.specs.declared.instance.Arc.{Arc}
 use Rattle.flow_model.specs.Potentials.{IsShown, reduced_cost}
-use Rattle.residual_net.specs.Residual.{ResidualNet, IsResidualNet, arc_at, no_arc}
+use Rattle.residual_net.specs.Residual.{ResidualNet, IsResidualNet}
+use Rattle.flow_model.specs.Instance.{arc_at, no_arc}
 use Rattle.residual_net.proofs.Loads.{at_from_zip, zip_from_at, fits_at}
 use Rattle.flow_solver.specs.Search.{tail_of, head_of, step_cost, parent_of, IsSearchTree, IsFlowShown, IsSettledBelow, IsRaised, HasBoundedPotentials}
 use Rattle.flow_solver.proofs.Order.{all_forward, all_backward}

@@ -13,7 +13,8 @@ use Rattle.flow_model.specs.declared.instance.Arc.{Arc}
 use Rattle.flow_model.specs.Flow.{Sends, loads}
 use Rattle.flow_model.specs.Potentials.{IsShown, reduced_cost}
 use Rattle.flow_model.proofs.Balance.{at_node, at_node-same, at_node-other}
-use Rattle.residual_net.specs.Residual.{ResidualNet, IsResidualNet, arc_at, no_arc, flow_after, units_after, HasRoomFor, HasDistinctArcs}
+use Rattle.residual_net.specs.Residual.{ResidualNet, IsResidualNet, flow_after, units_after, HasRoomFor, HasDistinctArcs}
+use Rattle.flow_model.specs.Instance.{arc_at, no_arc}
 use Rattle.residual_net.proofs.Pushed.{AllPairs-head, AllPairs-tail, rooms_after_first, distinct_after_first, length-flow_after, fits-flow_after, set_at}
 use Rattle.flow_solver.specs.Search.{tail_of, head_of, step_cost, parent_of, previous_node, HasDepth, parent_path, IsParentStep, IsSearchTree, IsFlowShown, IsSettledBelow, InOrder}
 use Rattle.flow_solver.proofs.Order.{same_ends, IsFullBefore, IsEmptyAfter, order_set}

@@ -6,7 +6,8 @@ use Rattle.std.proofs.lemmas.List.{get_or-set_other, get_or-set_same}
 use Rattle.std.proofs.lemmas.Int.{ints}
 use lib.ListN.{length-set}
 use Rattle.flow_model.specs.Potentials.{IsShown}
-use Rattle.residual_net.specs.Residual.{ResidualNet, IsResidualNet, arc_at, no_arc}
+use Rattle.residual_net.specs.Residual.{ResidualNet, IsResidualNet}
+use Rattle.flow_model.specs.Instance.{arc_at, no_arc}
 use Rattle.residual_net.proofs.Loads.{at_from_zip}
 use Rattle.flow_solver.specs.declared.labels.TheConstants.{UNREACHED}
 use Rattle.flow_solver.specs.Search.{tail_of, head_of, step_cost, IsNextOfDirection, IsNextStep, parent_of, previous_node, HasDepth, IsParentStep, IsSearchTree, IsFlowShown}
@@ -49,7 +50,7 @@ module _ (residual : ResidualNet) (p : List ℤ) (ok : IsResidualNet residual) (
   pub before_in : (v : ℕ) → v < residual.net.nodes → v ≢ residual.net.source → slice_index labels v < UNREACHED → previous_node residual.net.arcs parents v < residual.net.nodes
   before_in v l ne near = tail_in residual (parent_of parents v) ok (tree.steps v l ne near).next.known
 
-  module _ (s : ℕ × Bool) (v cand : ℕ) (next : IsNextStep residual s) (head : head_of (arc_at residual.net.arcs s.0) s.1 ≡ v) (is : pos cand ≡ pos (slice_index labels (tail_of (arc_at residual.net.arcs s.0) s.1)) +ℤ step_cost p (arc_at residual.net.arcs s.0) s.1) (lower : cand < slice_index labels v) where
+  module _ (s : ℕ × Bool) (v cand : ℕ) (next : IsNextStep residual s) (head : head_of (arc_at residual.net.arcs s.0) s.1 ≡ v) (is : (pos (slice_index labels (tail_of (arc_at residual.net.arcs s.0) s.1)) +ℤ step_cost p (arc_at residual.net.arcs s.0) s.1) ≤ℤ pos cand) (lower : cand < slice_index labels v) where
     abbrev u : ℕ
     u = tail_of (arc_at residual.net.arcs s.0) s.1
 

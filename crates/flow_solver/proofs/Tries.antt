@@ -6,7 +6,8 @@ use Rattle.std.proofs.lemmas.List.{get_or-replicate, length-replicate, get_or-se
 use Rattle.std.proofs.lemmas.Int.{ints}
 use lib.ListN.{length-set}
 use Rattle.flow_model.specs.declared.instance.Arc.{Arc}
-use Rattle.residual_net.specs.Residual.{ResidualNet, IsResidualNet, arc_at, no_arc}
+use Rattle.residual_net.specs.Residual.{ResidualNet, IsResidualNet}
+use Rattle.flow_model.specs.Instance.{arc_at, no_arc}
 use Rattle.flow_solver.specs.Search.{tail_of, head_of, step_cost, IsNextOfDirection, IsSearchTree, IsFlowShown, HasBoundedPotentials, IsSettledBelow, sum_of_labels, IsRelaxedTo}
 use Rattle.flow_solver.specs.declared.labels.TheConstants.{UNREACHED}
 use Rattle.flow_solver.proofs.Trees.{lowered, cost_low}
@@ -19,18 +20,18 @@ cost_most residual p s ok bounded known = by (arc_at residual.net.arcs s.0) s.1 
     by a true cheap = let l = bounded.low a.from in let h = bounded.top a.to in let m = bounded.most in omega (arith, ints, l, h, m, cheap)
     by a false cheap = let l = bounded.low a.to in let h = bounded.top a.from in let m = bounded.most in omega (arith, ints, l, h, m, cheap)
 
-module _ (residual : ResidualNet) (p : List ℤ) (ok : IsResidualNet residual) (shown : IsFlowShown residual p) (bounded : HasBoundedPotentials residual.net p) (labels : List ℕ) (parents : List (ℕ × Bool)) (tree : IsSearchTree residual p labels parents) (i : ℕ) (back : Bool) (known : i < length residual.net.arcs) (way : IsNextOfDirection residual.net.arcs residual.flow i back) where
+module _ (residual : ResidualNet) (p : List ℤ) (ok : IsResidualNet residual) (shown : IsFlowShown residual p) (labels : List ℕ) (parents : List (ℕ × Bool)) (tree : IsSearchTree residual p labels parents) (i : ℕ) (back : Bool) (known : i < length residual.net.arcs) (way : IsNextOfDirection residual.net.arcs residual.flow i back) where
   pub step_low : pos 0 ≤ℤ step_cost p (arc_at residual.net.arcs i) back
   step_low = cost_low residual p (i, back) ok shown (record { known = known; way = way })
 
-  pub label_fits : (tail cost : ℕ) → tail ≡ tail_of (arc_at residual.net.arcs i) back → pos cost ≡ step_cost p (arc_at residual.net.arcs i) back → slice_index labels tail + cost < 2 ^ 128
-  label_fits tail cost t e = let h = cost_most residual p (i, back) ok bounded known in let m = tree.most tail in omega (arith, ints, e, h, m)
+  pub label_fits : (tail cost : ℕ) → pos cost ≡ step_cost p (arc_at residual.net.arcs i) back → step_cost p (arc_at residual.net.arcs i) back ≤ℤ pos (2 * 10 ^ 12 + 2 ^ 24 * (2 * 10 ^ 12)) → slice_index labels tail + cost < 2 ^ 128
+  label_fits tail cost e h = let m = tree.most tail in omega (arith, ints, e, h, m)
 
   pub tried : (tail head cost : ℕ) (r : Bool) (new : List ℕ) (newer : List (ℕ × Bool)) → tail ≡ tail_of (arc_at residual.net.arcs i) back → head ≡ head_of (arc_at residual.net.arcs i) back → pos cost ≡ step_cost p (arc_at residual.net.arcs i) back → (IsTrue r → slice_index labels tail + cost < slice_index labels head) → (IsTrue r → new ≡ set labels head (slice_index labels tail + cost)) → (IsTrue r → newer ≡ set parents head (i, back)) → (IsFalse r → new ≡ labels) → (IsFalse r → newer ≡ parents) → IsSearchTree residual p new newer
   tried tail head cost true new newer t h e lower labels_is parents_is same kept =
       let u = ap (slice_index labels) t in
       let l = lower refl in
-      let is : pos (slice_index labels tail + cost) ≡ pos (slice_index labels (tail_of (arc_at residual.net.arcs i) back)) +ℤ step_cost p (arc_at residual.net.arcs i) back = omega (arith, ints, u, e) in
+      let is : (pos (slice_index labels (tail_of (arc_at residual.net.arcs i) back)) +ℤ step_cost p (arc_at residual.net.arcs i) back) ≤ℤ pos (slice_index labels tail + cost) = omega (arith, ints, u, e) in
       let it = lowered residual p ok shown labels parents tree (i, back) head (slice_index labels tail + cost) (record { known = known; way = way }) (sym h) is l in
       subst₂ (IsSearchTree residual p) (sym (labels_is refl)) (sym (parents_is refl)) it
   tried tail head cost false new newer t h e lower labels_is parents_is same kept = subst₂ (IsSearchTree residual p) (sym (same refl)) (sym (kept refl)) tree

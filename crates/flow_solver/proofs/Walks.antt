@@ -8,6 +8,7 @@ use lib.ListN.{length-set}
 use Rattle.flow_model.specs.declared.instance.Arc.{Arc}
 use Rattle.residual_net.specs.Residual.{ResidualNet, IsResidualNet, HasRoomFor}
 use Rattle.flow_solver.specs.Search.{parent_of, previous_node, HasDepth, parent_path, IsReachedNode, IsRaised}
+use Rattle.flow_solver.specs.Meeting.{lift}
 use Rattle.flow_solver.proofs.Trees.{tail_in}
 
 -- the steps taken so far and those that are left make the whole path
@@ -92,6 +93,25 @@ raise_turn p old new labels bound n x l e is so = subst (λ q. IsRaising p q lab
 
 pub raise_end : (p new : List ℤ) (labels : List ℕ) (bound n : ℕ) → length p ≤ n → IsRaising p new labels bound n → IsRaised p new labels bound
 raise_end p new labels bound n l so = record { long = so.long; each = λ v k. so.below v (omega arith) k }
+
+-- the potentials of the first nodes are lifted
+pub record IsLifting (p new : List ℤ) (d e : List ℕ) (a b n : ℕ) : Type 0 where
+  pub long : length new ≡ length p
+  pub below : (v : ℕ) → v < n → v < length p → slice_index_or new v (pos 0) ≡ slice_index_or p v (pos 0) +ℤ lift a b (slice_index d v) (slice_index e v) +ℤ pos b
+  pub untouched : (v : ℕ) → n ≤ v → slice_index_or new v (pos 0) ≡ slice_index_or p v (pos 0)
+
+pub lift_init : (p : List ℤ) (d e : List ℕ) (a b : ℕ) → IsLifting p p d e a b 0
+lift_init p d e a b = record { long = refl; below = λ v l k. absurd (omega arith); untouched = λ v l. refl }
+
+pub lift_turn : (p old new : List ℤ) (d e : List ℕ) (a b n : ℕ) (x : ℤ) → n < length p → x ≡ slice_index_or old n (pos 0) +ℤ lift a b (slice_index d n) (slice_index e n) +ℤ pos b → new ≡ set old n x → IsLifting p old d e a b n → IsLifting p new d e a b (n + 1)
+lift_turn p old new d e a b n x l is made so = subst (λ q. IsLifting p q d e a b (n + 1)) (sym made) record {
+  long = length-set old n x ∙ so.long;
+  below = λ v k in'. ⊎_elim
+      (λ (at : n ≡ v). subst (λ w. slice_index_or (set old n x) w (pos 0) ≡ slice_index_or p w (pos 0) +ℤ lift a b (slice_index d w) (slice_index e w) +ℤ pos b) at (get_or-set_same old n x (pos 0) (omega (arith, l, so.long)) ∙ is ∙ ap (λ y. y +ℤ lift a b (slice_index d n) (slice_index e n) +ℤ pos b) (so.untouched n (omega arith))))
+      (λ (ne : n ≡ v → ⊥). get_or-set_other old n v x (pos 0) (λ f. ne (sym f)) ∙ so.below v (omega arith) in')
+      (cases_eq n v);
+  untouched = λ v k. get_or-set_other old n v x (pos 0) (λ f. omega (arith, k, f)) ∙ so.untouched v (omega arith);
+}
 
 -- a step with room for an amount has room for less
 pub room_less : (arcs : List Arc) (flow : List ℕ) (a b : ℕ) (s : ℕ × Bool) → b ≤ a → HasRoomFor arcs flow a s → HasRoomFor arcs flow b s

@@ -3,7 +3,8 @@ use Rattle.std.specs.Prelude.{ℕ, ◌+◌, ◌-◌, ◌*◌, ◌<◌, ◌≤◌
 use Rattle.std.specs.BinaryHeap.{IsHeap}
 use Rattle.std.specs.Ordering.{nat_cmp}
 use Rattle.flow_model.specs.declared.limits.TheConstants.{NODES_MAX}
-use Rattle.residual_net.specs.Residual.{ResidualNet, arc_at}
+use Rattle.residual_net.specs.Residual.{ResidualNet}
+use Rattle.flow_model.specs.Instance.{arc_at}
 use Rattle.flow_solver.specs.declared.labels.TheConstants.{UNREACHED}
 use Rattle.flow_solver.specs.Search.{IsNextStep, IsRelaxedTo, sum_of_labels, tail_of}
 
@@ -11,13 +12,13 @@ use Rattle.flow_solver.specs.Search.{IsNextStep, IsRelaxedTo, sum_of_labels, tai
 abbrev pub key_of : ℕ → ℕ → ℕ
 key_of label v = (UNREACHED - label) * NODES_MAX + v
 
--- no step from the node can lower a label below that of the destination
-abbrev pub IsRelaxedFrom : ResidualNet → List ℤ → List ℕ → ℕ → Type 0
-IsRelaxedFrom residual p labels v = (s : ℕ × Bool) → IsNextStep residual s → tail_of (arc_at residual.net.arcs s.0) s.1 ≡ v → IsRelaxedTo residual.net.arcs p labels (slice_index labels residual.net.destination) s.0 s.1
+-- no step from the node can lower a label below the bound
+abbrev pub IsRelaxedFrom : ResidualNet → List ℤ → List ℕ → ℕ → ℕ → Type 0
+IsRelaxedFrom residual p labels bound v = (s : ℕ × Bool) → IsNextStep residual s → tail_of (arc_at residual.net.arcs s.0) s.1 ≡ v → IsRelaxedTo residual.net.arcs p labels bound s.0 s.1
 
 -- each reached node is in the queue under its label, or its steps are relaxed
-abbrev pub IsQueue : ResidualNet → List ℤ → List ℕ → List ℕ → Type 0
-IsQueue residual p labels keys = (v : ℕ) → v < residual.net.nodes → slice_index labels v < UNREACHED → Contains keys (key_of (slice_index labels v) v) ⊎ IsRelaxedFrom residual p labels v
+abbrev pub IsQueue : ResidualNet → List ℤ → List ℕ → ℕ → List ℕ → Type 0
+IsQueue residual p labels bound keys = (v : ℕ) → v < residual.net.nodes → slice_index labels v < UNREACHED → Contains keys (key_of (slice_index labels v) v) ⊎ IsRelaxedFrom residual p labels bound v
 
 -- labels fall, and each node whose label fell is in the queue under its new label
 pub record IsQueueProgress (labels keys new newer : List ℕ) : Type 0 where

@@ -3,10 +3,10 @@
 use Rattle.std.specs.Prelude.{ℕ, zero, suc, ◌+◌, ◌*◌, ◌<◌, ◌≤◌, ◌≡◌, ◌≢◌, List, [], ◌∷◌, length, All, Bool, true, false, cond, min, slice_index, slice_index_or, set, sum_by, ℤ, pos, ◌+ℤ◌, ◌-ℤ◌, ◌≤ℤ◌}
 use Rattle.flow_model.specs.declared.limits.TheConstants.{COST_MAX, NODES_MAX}
 use Rattle.flow_model.specs.declared.instance.Arc.{Arc}
-use Rattle.flow_model.specs.Instance.{Net}
+use Rattle.flow_model.specs.Instance.{Net, arc_at}
 use Rattle.flow_model.specs.Flow.{Sends, loads}
 use Rattle.flow_model.specs.Potentials.{IsShown, reduced_cost}
-use Rattle.residual_net.specs.Residual.{ResidualNet, IsResidualNet, arc_at}
+use Rattle.residual_net.specs.Residual.{ResidualNet, IsResidualNet}
 use Rattle.flow_solver.specs.declared.labels.TheConstants.{UNREACHED}
 
 -- if the later of two arcs of one direction carries anything, the earlier one is full

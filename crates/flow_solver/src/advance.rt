@@ -3,10 +3,10 @@ ghost use Rattle.residual_net.specs.Residual.{HasRoomFor};
 ghost use Rattle.flow_solver.specs.declared.labels.TheConstants.{UNREACHED};
 ghost use Rattle.flow_solver.specs.Search.{HasDepth, IsPartialSolution, IsRaised, IsReachedNode, IsSearchResult, parent_path};
 
+use crate::flow_net::FlowNet;
 use crate::steps::tail_of;
 use flow_model::Instance;
 use plan_base::NoMemory;
-use residual_net::Residual;
 use std::alloc::Global;
 
 /// A potential raised by a label or by the bound, whichever is less.
@@ -32,9 +32,9 @@ fn raise(potentials: &mut [i128], labels: &[u128], bound: u128)
 }
 
 /// The parent steps from the source to the destination, the last one first.
-fn walk(
+pub(crate) fn walk(
     alloc: Global,
-    residual: &Residual,
+    residual: &FlowNet,
     parents: &[(u32, bool)],
     source: u32,
     destination: u32,
@@ -57,7 +57,7 @@ fn walk(
 }
 
 /// The most units that all steps have room for, but no more than `most`.
-fn least_room(residual: &Residual, path: &[(u32, bool)], most: u64) -> u64
+pub(crate) fn least_room(residual: &FlowNet, path: &[(u32, bool)], most: u64) -> u64
     requires most { 0 < most }
     requires rooms { All (HasRoomFor residual.now.net.arcs residual.now.flow 1) path.now }
     ensures most { result ≤ most }
@@ -76,7 +76,7 @@ fn least_room(residual: &Residual, path: &[(u32, bool)], most: u64) -> u64
 pub(crate) fn advance(
     alloc: Global,
     instance: &Instance,
-    residual: &mut Residual,
+    residual: &mut FlowNet,
     potentials: &mut [i128],
     labels: &[u128],
     parents: &[(u32, bool)],

@@ -1,13 +1,15 @@
 ghost use Rattle.std.specs.Prelude.{◌≡◌, ◌<◌, ◌≤◌, ℕ, Bool, IfOk, IsFalse, IsTrue, length};
+ghost use Rattle.residual_net.specs.Residual.{IsResidualNet};
 ghost use Rattle.flow_solver.specs.declared.labels.TheConstants.{UNREACHED};
 ghost use Rattle.flow_solver.specs.Search.{HasBoundedPotentials, IsFlowShown, IsNextOfDirection, IsRelaxedTo, IsSearchResult, IsSearchTree, IsSettledBelow, sum_of_labels};
 
-use crate::labels::{SearchTree, UNREACHED, first_tree};
+use crate::advance::advance;
+use crate::flow_net::FlowNet;
+use crate::labels::{SearchTree, UNREACHED, first_tree, is_reached, reached_nodes};
 use crate::steps::try_step;
-use crate::successive::{Search, solve_by};
+use crate::successive::{Augment, Augmented, solve_by};
 use flow_model::{Instance, Solve, Solved};
 use plan_base::NoMemory;
-use residual_net::Residual;
 use std::alloc::Global;
 
 /// Successive shortest paths with label correcting: each search passes over all arcs until no step lowers a label
@@ -20,7 +22,7 @@ pub struct Correcting;
 
 /// Lowers labels by the steps over an arc; whether any was lowered.
 fn try_arc(
-    residual: &Residual,
+    residual: &FlowNet,
     potentials: &[i128],
     labels: &mut [u128],
     parents: &mut [(u32, bool)],
@@ -42,7 +44,7 @@ fn try_arc(
 
 /// Lowers labels by the steps over each arc; whether any was lowered.
 fn pass(
-    residual: &Residual,
+    residual: &FlowNet,
     potentials: &[i128],
     labels: &mut [u128],
     parents: &mut [(u32, bool)],
@@ -65,7 +67,7 @@ fn pass(
 
 /// Lowers labels until no step lowers one.
 fn correct(
-    residual: &Residual,
+    residual: &FlowNet,
     potentials: &[i128],
     labels: &mut [u128],
     parents: &mut [(u32, bool)],
@@ -78,22 +80,55 @@ fn correct(
     while pass(residual, potentials, labels, parents) {}
 }
 
-impl Search for Correcting {
-    fn search(
-        &self,
+/// A tree whose labels no step can lower below the label of the destination.
+fn search_by_passes(
+    alloc: Global,
+    instance: &Instance,
+    residual: &FlowNet,
+    potentials: &[i128],
+) -> Result<SearchTree, NoMemory>
+    requires net { residual.now.net ≡ instance.now }
+    requires residual { IsResidualNet residual.now }
+    requires bounded { HasBoundedPotentials residual.now.net potentials.now }
+    requires shown { IsFlowShown residual.now potentials.now }
+    ensures { IfOk result (λ t. IsSearchResult residual.now potentials.now t.labels.items t.parents.items) }
+{
+    let mut tree = first_tree(alloc, instance)?;
+    correct(residual, potentials, &mut tree.labels, &mut tree.parents);
+    Ok(tree)
+}
+
+impl Augment for Correcting {
+    ghost fits = { λ s net. Unit {0} };
+
+    fn augment(
+        &mut self,
         alloc: Global,
         instance: &Instance,
-        residual: &Residual,
-        potentials: &[i128],
-    ) -> Result<SearchTree, NoMemory> {
-        let mut tree = first_tree(alloc, instance)?;
-        correct(residual, potentials, &mut tree.labels, &mut tree.parents);
-        Ok(tree)
+        residual: &mut FlowNet,
+        potentials: &mut [i128],
+        sent: u64,
+    ) -> Result<Augmented, NoMemory> {
+        let found = search_by_passes(alloc, instance, residual, potentials)?;
+        if !is_reached(found.labels[instance.destination() as usize]) {
+            let side = reached_nodes(alloc, &found.labels)?;
+            return Ok(Augmented::Cut { side });
+        }
+        let units = advance(
+            alloc,
+            instance,
+            residual,
+            potentials,
+            &found.labels,
+            &found.parents,
+            sent,
+        )?;
+        Ok(Augmented::Sent { units })
     }
 }
 
 impl Solve for Correcting {
     fn solve(&self, alloc: Global, instance: &Instance) -> Result<Solved, NoMemory> {
-        solve_by(self, alloc, instance)
+        solve_by(&mut Correcting, alloc, instance)
     }
 }

@@ -1,50 +1,138 @@
-ghost use Rattle.std.specs.Prelude.{◌≡◌, IfOk};
+ghost use Rattle.std.specs.Prelude.{◌≡◌, ◌<◌, ◌≤◌, IfOk};
+ghost use Rattle.flow_solver.specs.Search.{IsPartialSolution};
+ghost use Rattle.flow_solver.specs.Meeting.{IsCarriedOn};
 
-use crate::labels::{SearchTree, first_tree};
-use crate::queue::{key_of, search_by_label};
-use crate::successive::{Search, solve_by};
+use crate::advance::{least_room, walk};
+use crate::flow_net::FlowNet;
+use crate::heads::heads_of;
+use crate::labels::{UNREACHED, reached_nodes};
+use crate::lift::{carry, lift};
+use crate::meeting::{Found, meet};
+use crate::side::{Side, begin, no_side};
+use crate::successive::{Augment, Augmented, solve_by};
 use flow_model::{Instance, Solve, Solved};
 use plan_base::NoMemory;
 use residual_net::Residual;
 use std::alloc::Global;
-use std::collections::BinaryHeap;
 
 /// Successive shortest paths with potentials (Edmonds and Karp 1972; Johnson 1977): each search goes by reduced costs,
-/// which are never below 0, the least label first (Dijkstra 1959), over a binary heap, and ends once it reaches the
-/// destination.
+/// which are never below 0, the least label first (Dijkstra 1959), from both ends at once (Pohl 1971), over binary heaps,
+/// and ends once the two searches can find no shorter path.
 ///
-/// A search opens no node that is farther than the destination, and takes memory for the heap. Prefer it to
-/// `Correcting` for all but very small networks.
+/// A search opens only nodes near the two ends, and takes memory for two trees and two heaps. Prefer it to `Correcting`
+/// for all but very small networks.
 #[derive(Clone, Copy, Debug)]
 pub struct Keeping;
 
-impl Search for Keeping {
-    fn search(
-        &self,
+/// Sends more units along the path that a search found, and lifts the potentials so that they show the new flow; how
+/// many units are sent then.
+fn push_found(
+    alloc: Global,
+    instance: &Instance,
+    residual: &mut FlowNet,
+    potentials: &mut [i128],
+    source: &Side,
+    destination: &Side,
+    found: Found,
+    sent: u64,
+) -> Result<u64, NoMemory>
+    requires net { residual.old.net ≡ instance.now }
+    requires less { sent < instance.now.demand }
+    requires partial { IsPartialSolution residual.old potentials.old sent }
+    requires carried { IsCarriedOn residual.old potentials.old source.now.labels.items source.now.parents.items destination.now.labels.items found.radius found.best }
+    ensures more { IfOk result (λ n. sent < n) }
+    ensures most { IfOk result (λ n. n ≤ instance.now.demand) }
+    ensures partial { IfOk result (λ n. IsPartialSolution residual.new potentials.new n) }
+    ensures net { IfOk result (λ n. residual.new.net ≡ residual.old.net) }
+{
+    let path = walk(
+        alloc,
+        residual,
+        &source.parents,
+        instance.source(),
+        instance.destination(),
+    )?;
+    let amount = least_room(residual, &path, instance.demand() - sent);
+    lift(
+        potentials,
+        &source.labels,
+        &destination.labels,
+        found.radius,
+        found.best - found.radius,
+    );
+    residual.push_path(&path, amount);
+    Ok(sent + amount)
+}
+
+/// A search from both ends over an instance: the first arcs of the instance's directions, by node, and the two searches,
+/// which keep their memory from one augmentation to the next.
+#[derive(Drop)]
+struct KeepingSearch<'a> {
+    heads: Residual<'a>,
+    source: Side,
+    destination: Side,
+}
+
+impl<'a> Augment for KeepingSearch<'a> {
+    ghost use Rattle.flow_solver.specs.TwoSided.{FitsSearch};
+
+    ghost fits = { λ s net. FitsSearch net s.heads.net s.source s.destination };
+
+    fn augment(
+        &mut self,
         alloc: Global,
         instance: &Instance,
-        residual: &Residual,
-        potentials: &[i128],
-    ) -> Result<SearchTree, NoMemory> {
-        let source = instance.source();
-        let destination = instance.destination();
-        let mut tree = first_tree(alloc, instance)?;
-        let mut heap = BinaryHeap::new(alloc);
-        heap.push(key_of(0, source))?;
-        search_by_label(
+        residual: &mut FlowNet,
+        potentials: &mut [i128],
+        sent: u64,
+    ) -> Result<Augmented, NoMemory> {
+        let end = instance.destination();
+        let nodes = instance.nodes();
+        begin(&mut self.source, nodes, instance.source())?;
+        begin(&mut self.destination, nodes, end)?;
+        let found = meet(
+            residual,
+            &self.heads,
+            potentials,
+            &mut self.source,
+            &mut self.destination,
+        )?;
+        if found.best == UNREACHED {
+            let side = reached_nodes(alloc, &self.source.labels)?;
+            return Ok(Augmented::Cut { side });
+        }
+        carry(
             residual,
             potentials,
-            &mut tree.labels,
-            &mut tree.parents,
-            &mut heap,
-            destination,
+            &mut self.source,
+            &self.destination,
+            found,
+            end,
+            nodes,
+        );
+        let units = push_found(
+            alloc,
+            instance,
+            residual,
+            potentials,
+            &self.source,
+            &self.destination,
+            found,
+            sent,
         )?;
-        Ok(tree)
+        Ok(Augmented::Sent { units })
     }
 }
 
 impl Solve for Keeping {
     fn solve(&self, alloc: Global, instance: &Instance) -> Result<Solved, NoMemory> {
-        solve_by(self, alloc, instance)
+        let firsts = heads_of(alloc, instance)?;
+        let heads = Residual::open(alloc, &firsts)?;
+        let mut search = KeepingSearch {
+            heads,
+            source: no_side(alloc, instance.nodes())?,
+            destination: no_side(alloc, instance.nodes())?,
+        };
+        solve_by(&mut search, alloc, instance)
     }
 }

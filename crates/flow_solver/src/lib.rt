@@ -4,9 +4,14 @@
 
 mod advance;
 mod correcting;
+mod flow_net;
+mod heads;
 mod keeping;
 mod labels;
+mod lift;
+mod meeting;
 mod queue;
+mod side;
 mod steps;
 mod successive;
 #[cfg(test)]

@@ -1,147 +1,227 @@
-ghost use Rattle.std.specs.Prelude.{◌≡◌, ◌<◌, ◌≤◌, ◌≢◌, ◌+◌, ◌^◌, ℕ, pos, All, Bool, Contains, IfNone, IfOk, IfSome, IsFalse, IsTrue, OnOk, length, set, slice_index};
+ghost use Rattle.std.specs.Prelude.{◌≡◌, ◌<◌, ◌≤◌, ◌+◌, ◌^◌, ◌-ℤ◌, ◌+ℤ◌, ◌≤ℤ◌, ℕ, pos, min, nat_lt, All, Bool, cond, IfNone, IfOk, IfSome, OnOk, length, set, slice_index, slice_index_or};
+ghost use Rattle.flow_solver.specs.declared.labels.TheConstants.{UNREACHED};
 ghost use Rattle.std.specs.BinaryHeap.{IsHeap, heap_items};
 ghost use Rattle.std.specs.Ordering.{nat_cmp};
-ghost use Rattle.flow_model.specs.declared.limits.TheConstants.{NODES_MAX};
-ghost use Rattle.residual_net.specs.Residual.{IsResidualNet, arc_at};
-ghost use Rattle.flow_solver.specs.declared.labels.TheConstants.{UNREACHED};
+ghost use Rattle.flow_model.specs.Instance.{arc_at};
+ghost use Rattle.flow_model.specs.Potentials.{IsSmall};
 ghost use Rattle.flow_solver.specs.Search as words;
-ghost use Rattle.flow_solver.specs.Search.{HasBoundedPotentials, IsFlowShown, IsNextOfDirection, IsRelaxedTo, IsSearchResult, IsSearchTree};
-ghost use Rattle.flow_solver.specs.Queue as queue;
+ghost use Rattle.flow_solver.specs.Search.{HasBoundedPotentials, IsFlowShown, InOrder, IsRelaxedTo, IsSearchTree, sum_of_labels};
+ghost use Rattle.flow_solver.specs.Heads.{HasHeads};
 ghost use Rattle.flow_solver.specs.Queue.{IsQueue, IsQueueProgress, IsRelaxedFrom};
+ghost use Rattle.flow_solver.specs.Turned.{seen, seen_potentials};
+ghost use Rattle.flow_solver.specs.Meeting.{IsMeeting, IsStepOf, reduced_cost};
 
-use crate::labels::UNREACHED;
-use crate::steps::{head_of, try_step};
-use flow_model::NODES_MAX;
+use crate::flow_net::FlowNet;
+use crate::heads::next_of;
+use crate::side::{Side, key_of, lower_end, node_of};
+use crate::steps::{NextStep, flipped};
 use plan_base::NoMemory;
 use residual_net::Residual;
-use std::collections::BinaryHeap;
 
-/// The key of a node: the lower its label, the greater its key. Keys are single integers, so a heap of them compares
-/// fast.
-pub(crate) fn key_of(label: u128, node: u32) -> u128
-    requires label { label ≤ UNREACHED }
-    requires node { node < NODES_MAX }
-    ensures { result ≡ queue.key_of label node }
-{
-    (UNREACHED - label) * u128::from(NODES_MAX) + u128::from(node)
+/// The length of the shortest path that two searches have found together, and a node of it that both reached.
+#[derive(Clone, Copy, Debug)]
+pub(crate) struct Meeting {
+    pub(crate) best: u128,
+    pub(crate) node: u32,
 }
 
-/// The node whose key this is. `None` if the key is outdated: its node's label has fallen since.
-fn node_of(labels: &[u128], key: u128) -> Option<u32>
-    requires few { length labels.now ≤ NODES_MAX }
-    requires most { (v : ℕ) → slice_index labels.now v ≤ UNREACHED }
-    ensures inside { IfSome result (λ v. v < length labels.now) }
-    ensures node { IfSome result (λ v. key ≡ queue.key_of (slice_index labels.now v) v) }
-    ensures stale { IfNone result ((v : ℕ) → v < length labels.now → key ≢ queue.key_of (slice_index labels.now v) v) }
+/// The end of a step that a search comes from, and the one that it leads to; a search from the destination sees each
+/// step turned around.
+fn ends_of(step: NextStep, turned: bool) -> (u32, u32)
+    ensures near { result.0 ≡ cond turned step.head step.tail }
+    ensures far { result.1 ≡ cond turned step.tail step.head }
 {
-    let node = (key % u128::from(NODES_MAX)) as u32;
-    if node as usize >= labels.len() {
-        return None;
+    if turned {
+        (step.head, step.tail)
+    } else {
+        (step.tail, step.head)
     }
-    if key != key_of(labels[node as usize], node) {
-        return None;
-    }
-    Some(node)
 }
 
-/// Lowers the label of a step's end, and puts its node into the queue if the label fell.
+/// A cost, seen from the potentials of the ends of an arc.
+fn reduced(cost: u64, from: u32, to: u32, potentials: &[i128]) -> i128
+    requires from { from < length potentials.now }
+    requires to { to < length potentials.now }
+    requires small { All IsSmall potentials.now }
+    ensures { result ≡ pos cost +ℤ slice_index_or potentials.now from (pos 0) -ℤ slice_index_or potentials.now to (pos 0) }
+{
+    i128::from(cost) + potentials[from as usize] - potentials[to as usize]
+}
+
+/// The reduced cost of a step, if it isn't below 0.
+fn cost_of_next(potentials: &[i128], step: NextStep) -> u128
+    requires tail { step.tail < length potentials.now }
+    requires head { step.head < length potentials.now }
+    requires small { All IsSmall potentials.now }
+    requires low { pos 0 ≤ℤ reduced_cost potentials.now step }
+    ensures { pos result ≡ reduced_cost potentials.now step }
+{
+    if step.back {
+        (0 - reduced(step.cost, step.head, step.tail, potentials)) as u128
+    } else {
+        reduced(step.cost, step.tail, step.head, potentials) as u128
+    }
+}
+
+/// The better of a meeting and the one at a node with these labels.
+fn better(meeting: Meeting, label: u128, other: u128, node: u32) -> Meeting
+    requires { label + other < 2 ^ 128 }
+    ensures best { result.best ≡ min meeting.best (label + other) }
+    ensures node { result.node ≡ cond (nat_lt (label + other) meeting.best) node meeting.node }
+{
+    let best = label + other;
+    if best < meeting.best {
+        Meeting { best, node }
+    } else {
+        meeting
+    }
+}
+
+/// Lowers the label of a step's far end, if the step gives it a lower one, and one below the bound. Then it returns the
+/// node and its label.
+fn lower_over(
+    residual: &FlowNet,
+    potentials: &[i128],
+    side: &mut Side,
+    step: NextStep,
+    turned: bool,
+    bound: u128,
+) -> Option<(u32, u128)>
+    requires step { IsStepOf residual.now step }
+    requires bounded { HasBoundedPotentials residual.now.net potentials.now }
+    requires shown { IsFlowShown residual.now potentials.now }
+    requires tree { IsSearchTree (seen turned residual.now) (seen_potentials turned potentials.now) side.old.labels.items side.old.parents.items }
+    ensures tree { IsSearchTree (seen turned residual.now) (seen_potentials turned potentials.now) side.new.labels.items side.new.parents.items }
+    ensures node { IfSome result (λ r. r.0 < residual.now.net.nodes) }
+    ensures lower { IfSome result (λ r. r.1 < slice_index side.old.labels.items r.0) }
+    ensures labels { IfSome result (λ r. side.new.labels.items ≡ set side.old.labels.items r.0 r.1) }
+    ensures same { IfNone result (side.new.labels.items ≡ side.old.labels.items) }
+    ensures relaxed { IsRelaxedTo (seen turned residual.now).net.arcs (seen_potentials turned potentials.now) side.new.labels.items bound step.arc step.back }
+    ensures tail { slice_index side.new.labels.items (words.tail_of (arc_at (seen turned residual.now).net.arcs step.arc) step.back) ≡ slice_index side.old.labels.items (words.tail_of (arc_at (seen turned residual.now).net.arcs step.arc) step.back) }
+    ensures heap { heap_items side.new.heap ≡ heap_items side.old.heap }
+{
+    let _arcs = residual.arcs();
+    let (near, far) = ends_of(step, turned);
+    let label = side.labels[near as usize] + cost_of_next(potentials, step);
+    if lower_end(side, far, label, (step.arc, step.back), bound) {
+        Some((far, label))
+    } else {
+        None
+    }
+}
+
+/// Lowers the label of a step's far end, and puts its node into the queue if the label fell.
 fn queue_step(
-    residual: &Residual,
+    residual: &FlowNet,
     potentials: &[i128],
-    labels: &mut [u128],
-    parents: &mut [(u32, bool)],
-    heap: &mut BinaryHeap<u128>,
-    i: u32,
-    back: bool,
-    destination: u32,
-) -> Result<(), NoMemory>
-    requires known { i < length residual.now.net.arcs }
-    requires destination { destination ≡ residual.now.net.destination }
+    side: &mut Side,
+    other: &Side,
+    step: NextStep,
+    turned: bool,
+    meeting: Meeting,
+) -> Result<Meeting, NoMemory>
+    requires step { IsStepOf residual.now step }
     requires bounded { HasBoundedPotentials residual.now.net potentials.now }
     requires shown { IsFlowShown residual.now potentials.now }
-    requires tree { IsSearchTree residual.now potentials.now labels.old parents.old }
-    ensures tree { IsSearchTree residual.now potentials.now labels.new parents.new }
-    ensures grows { OnOk result (IsQueueProgress labels.old (heap_items heap.old) labels.new (heap_items heap.new)) }
-    ensures relaxed { OnOk result (IsNextOfDirection residual.now.net.arcs residual.now.flow i back → IsRelaxedTo residual.now.net.arcs potentials.now labels.new (slice_index labels.new destination) i back) }
-    ensures tail { OnOk result (slice_index labels.new (words.tail_of (arc_at residual.now.net.arcs i) back) ≡ slice_index labels.old (words.tail_of (arc_at residual.now.net.arcs i) back)) }
+    requires tree { IsSearchTree (seen turned residual.now) (seen_potentials turned potentials.now) side.old.labels.items side.old.parents.items }
+    requires other { length other.now.labels.items ≡ residual.now.net.nodes }
+    requires other_most { (v : ℕ) → slice_index other.now.labels.items v ≤ UNREACHED }
+    requires meeting { IsMeeting residual.now.net.nodes side.old.labels.items other.now.labels.items meeting.best meeting.node }
+    ensures tree { OnOk result (IsSearchTree (seen turned residual.now) (seen_potentials turned potentials.now) side.new.labels.items side.new.parents.items) }
+    ensures meeting { IfOk result (λ m. IsMeeting residual.now.net.nodes side.new.labels.items other.now.labels.items m.best m.node) }
+    ensures best { IfOk result (λ m. m.best ≤ meeting.best) }
+    ensures progress { OnOk result (IsQueueProgress side.old.labels.items (heap_items side.old.heap) side.new.labels.items (heap_items side.new.heap)) }
+    ensures relaxed { IfOk result (λ m. IsRelaxedTo (seen turned residual.now).net.arcs (seen_potentials turned potentials.now) side.new.labels.items m.best step.arc step.back) }
+    ensures tail { OnOk result (slice_index side.new.labels.items (words.tail_of (arc_at (seen turned residual.now).net.arcs step.arc) step.back) ≡ slice_index side.old.labels.items (words.tail_of (arc_at (seen turned residual.now).net.arcs step.arc) step.back)) }
 {
-    let arcs = residual.arcs();
-    let bound = labels[destination as usize];
-    if try_step(residual, potentials, labels, parents, i, back, bound) {
-        let head = head_of(arcs[i as usize], back);
-        heap.push(key_of(labels[head as usize], head))?;
-    }
-    Ok(())
-}
-
-/// Lowers the labels of the ends of all steps out of a node.
-fn open_node(
-    residual: &Residual,
-    potentials: &[i128],
-    labels: &mut [u128],
-    parents: &mut [(u32, bool)],
-    heap: &mut BinaryHeap<u128>,
-    node: u32,
-    destination: u32,
-) -> Result<(), NoMemory>
-    requires node { node < residual.now.net.nodes }
-    requires destination { destination ≡ residual.now.net.destination }
-    requires bounded { HasBoundedPotentials residual.now.net potentials.now }
-    requires shown { IsFlowShown residual.now potentials.now }
-    requires tree { IsSearchTree residual.now potentials.now labels.old parents.old }
-    ensures tree { IsSearchTree residual.now potentials.now labels.new parents.new }
-    ensures grows { OnOk result (IsQueueProgress labels.old (heap_items heap.old) labels.new (heap_items heap.new)) }
-    ensures relaxed { OnOk result (IsRelaxedFrom residual.now potentials.now labels.new node) }
-{
-    let out = residual.out(node);
-    for step in out {
-        queue_step(
-            residual,
-            potentials,
-            labels,
-            parents,
-            heap,
-            step.0,
-            step.1,
-            destination,
-        )?;
-    }
-    Ok(())
-}
-
-/// Lowers labels, the least first, until no step lowers one below the label of the destination.
-pub(crate) fn search_by_label(
-    residual: &Residual,
-    potentials: &[i128],
-    labels: &mut [u128],
-    parents: &mut [(u32, bool)],
-    heap: &mut BinaryHeap<u128>,
-    destination: u32,
-) -> Result<(), NoMemory>
-    requires residual { IsResidualNet residual.now }
-    requires destination { destination ≡ residual.now.net.destination }
-    requires bounded { HasBoundedPotentials residual.now.net potentials.now }
-    requires shown { IsFlowShown residual.now potentials.now }
-    requires tree { IsSearchTree residual.now potentials.now labels.old parents.old }
-    requires heap { IsHeap nat_cmp (heap_items heap.old) }
-    requires queue { IsQueue residual.now potentials.now labels.old (heap_items heap.old) }
-    ensures { OnOk result (IsSearchResult residual.now potentials.now labels.new parents.new) }
-{
-    while let Some(key) = heap.pop() {
-        if let Some(node) = node_of(labels, key) {
-            if labels[node as usize] >= labels[destination as usize] {
-                return Ok(());
-            }
-            open_node(
-                residual,
-                potentials,
-                labels,
-                parents,
-                heap,
-                node,
-                destination,
-            )?;
+    let _nodes = residual.arcs();
+    match lower_over(residual, potentials, side, step, turned, meeting.best) {
+        None => Ok(meeting),
+        Some((node, label)) => {
+            side.heap.push(key_of(label, node))?;
+            Ok(better(meeting, label, other.labels[node as usize], node))
         }
     }
-    Ok(())
+}
+
+/// Lowers the labels of the far ends of all steps out of a node, or of all steps into it if the search is turned around.
+fn open_node(
+    residual: &FlowNet,
+    heads: &Residual,
+    potentials: &[i128],
+    side: &mut Side,
+    other: &Side,
+    node: u32,
+    turned: bool,
+    meeting: Meeting,
+) -> Result<Meeting, NoMemory>
+    requires node { node < residual.now.net.nodes }
+    requires order { InOrder residual.now.net.arcs residual.now.flow }
+    requires heads { HasHeads residual.now.net.arcs heads.now.net.arcs (length residual.now.net.arcs) }
+    requires head_nodes { heads.now.net.nodes ≡ residual.now.net.nodes }
+    requires bounded { HasBoundedPotentials residual.now.net potentials.now }
+    requires shown { IsFlowShown residual.now potentials.now }
+    requires tree { IsSearchTree (seen turned residual.now) (seen_potentials turned potentials.now) side.old.labels.items side.old.parents.items }
+    requires other { length other.now.labels.items ≡ residual.now.net.nodes }
+    requires other_most { (v : ℕ) → slice_index other.now.labels.items v ≤ UNREACHED }
+    requires meeting { IsMeeting residual.now.net.nodes side.old.labels.items other.now.labels.items meeting.best meeting.node }
+    ensures tree { OnOk result (IsSearchTree (seen turned residual.now) (seen_potentials turned potentials.now) side.new.labels.items side.new.parents.items) }
+    ensures meeting { IfOk result (λ m. IsMeeting residual.now.net.nodes side.new.labels.items other.now.labels.items m.best m.node) }
+    ensures best { IfOk result (λ m. m.best ≤ meeting.best) }
+    ensures progress { OnOk result (IsQueueProgress side.old.labels.items (heap_items side.old.heap) side.new.labels.items (heap_items side.new.heap)) }
+    ensures relaxed { IfOk result (λ m. IsRelaxedFrom (seen turned residual.now) (seen_potentials turned potentials.now) side.new.labels.items m.best node) }
+{
+    let _arcs = residual.arcs();
+    let mut found = meeting;
+    let firsts = heads.arcs();
+    let out = heads.out(node);
+    for step in out {
+        let head = firsts[step.0 as usize];
+        if let Some(next) = next_of(residual, head, flipped(step.1, turned)) {
+            found = queue_step(residual, potentials, side, other, next, turned, found)?;
+        }
+    }
+    Ok(found)
+}
+
+/// Takes the first node of a queue, and lowers labels by its steps.
+pub(crate) fn expand(
+    residual: &FlowNet,
+    heads: &Residual,
+    potentials: &[i128],
+    side: &mut Side,
+    other: &Side,
+    turned: bool,
+    meeting: Meeting,
+) -> Result<Meeting, NoMemory>
+    requires order { InOrder residual.now.net.arcs residual.now.flow }
+    requires heads { HasHeads residual.now.net.arcs heads.now.net.arcs (length residual.now.net.arcs) }
+    requires head_nodes { heads.now.net.nodes ≡ residual.now.net.nodes }
+    requires bounded { HasBoundedPotentials residual.now.net potentials.now }
+    requires shown { IsFlowShown residual.now potentials.now }
+    requires tree { IsSearchTree (seen turned residual.now) (seen_potentials turned potentials.now) side.old.labels.items side.old.parents.items }
+    requires heap { IsHeap nat_cmp (heap_items side.old.heap) }
+    requires queue { IsQueue (seen turned residual.now) (seen_potentials turned potentials.now) side.old.labels.items meeting.best (heap_items side.old.heap) }
+    requires other { length other.now.labels.items ≡ residual.now.net.nodes }
+    requires other_most { (v : ℕ) → slice_index other.now.labels.items v ≤ UNREACHED }
+    requires meeting { IsMeeting residual.now.net.nodes side.old.labels.items other.now.labels.items meeting.best meeting.node }
+    ensures tree { OnOk result (IsSearchTree (seen turned residual.now) (seen_potentials turned potentials.now) side.new.labels.items side.new.parents.items) }
+    ensures heap { OnOk result (IsHeap nat_cmp (heap_items side.new.heap)) }
+    ensures queue { IfOk result (λ m. IsQueue (seen turned residual.now) (seen_potentials turned potentials.now) side.new.labels.items m.best (heap_items side.new.heap)) }
+    ensures meeting { IfOk result (λ m. IsMeeting residual.now.net.nodes side.new.labels.items other.now.labels.items m.best m.node) }
+    ensures best { IfOk result (λ m. m.best ≤ meeting.best) }
+    ensures less { OnOk result (0 < length (heap_items side.old.heap) → sum_of_labels side.new.labels.items + length (heap_items side.new.heap) < sum_of_labels side.old.labels.items + length (heap_items side.old.heap)) }
+{
+    let _arcs = residual.arcs();
+    let Some(key) = side.heap.pop() else {
+        return Ok(meeting);
+    };
+    let Some(node) = node_of(&side.labels, key) else {
+        return Ok(meeting);
+    };
+    side.work = side.work.saturating_add(heads.out(node).len() as u64);
+    let found = open_node(
+        residual, heads, potentials, side, other, node, turned, meeting,
+    )?;
+    Ok(found)
 }

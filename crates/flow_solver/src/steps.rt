@@ -1,11 +1,28 @@
-ghost use Rattle.std.specs.Prelude.{◌≡◌, ◌<◌, ◌≤◌, ◌+◌, ◌^◌, ◌-ℤ◌, ◌≤ℤ◌, pos, min, ℕ, All, Bool, IsFalse, IsTrue, length, set, slice_index};
+ghost use Rattle.std.specs.Prelude.{◌≡◌, ◌<◌, ◌≤◌, ◌+◌, ◌^◌, ◌-ℤ◌, ◌≤ℤ◌, pos, min, ℕ, All, Bool, cond, not, IsFalse, IsTrue, length, set, slice_index};
 ghost use Rattle.flow_model.specs.Potentials.{IsSmall};
-ghost use Rattle.residual_net.specs.Residual.{arc_at};
+ghost use Rattle.flow_model.specs.Instance.{arc_at};
 ghost use Rattle.flow_solver.specs.Search as words;
 ghost use Rattle.flow_solver.specs.Search.{HasBoundedPotentials, IsFlowShown, IsLowered, IsNextBackward, IsNextForward, IsNextOfDirection, IsRelaxedTo, IsSearchTree, step_cost, sum_of_labels};
 
+use crate::flow_net::FlowNet;
 use flow_model::Arc;
-use residual_net::Residual;
+
+/// A step that a search may use: over this arc, backward or not, from its tail to its head, with the arc's cost.
+#[derive(Clone, Copy, Debug)]
+pub(crate) struct NextStep {
+    pub(crate) arc: u32,
+    pub(crate) back: bool,
+    pub(crate) tail: u32,
+    pub(crate) head: u32,
+    pub(crate) cost: u64,
+}
+
+/// Whether a step is backward, or forward if it is turned around.
+pub(crate) fn flipped(back: bool, turned: bool) -> bool
+    ensures { result ≡ cond turned (not back) back }
+{
+    if turned { !back } else { back }
+}
 
 /// Whether the arc is the first of its direction that has room.
 fn is_next_forward(arcs: &[Arc], flow: &[u64], i: usize) -> bool
@@ -75,7 +92,7 @@ pub(crate) fn head_of(arc: Arc, back: bool) -> u32
 }
 
 /// The reduced cost of a step, if it isn't below 0.
-fn cost_of_step(residual: &Residual, potentials: &[i128], i: u32, back: bool) -> u128
+fn cost_of_step(residual: &FlowNet, potentials: &[i128], i: u32, back: bool) -> u128
     requires known { i < length residual.now.net.arcs }
     requires long { length potentials.now ≡ residual.now.net.nodes }
     requires small { All IsSmall potentials.now }
@@ -125,7 +142,7 @@ fn lower_label(
 
 /// Lowers the label of a step's end, if a search may use the step, and it gives a lower label, and one below the bound.
 pub(crate) fn try_step(
-    residual: &Residual,
+    residual: &FlowNet,
     potentials: &[i128],
     labels: &mut [u128],
     parents: &mut [(u32, bool)],

@@ -1,41 +1,60 @@
-ghost use Rattle.std.specs.Prelude.{◌≡◌, ◌<◌, ◌≤◌, All, IfOk, List, length, slice_index, ℕ};
+ghost use Rattle.std.specs.Prelude.{◌≡◌, ◌<◌, ◌≤◌, All, IfOk, List, OnOk, ℕ};
 ghost use Rattle.flow_model.specs.Flow.{IsCheapest, IsFeasible, IsFilledInOrder};
 ghost use Rattle.flow_model.specs.Potentials.{IsSmall, ShowsCheapest};
 ghost use Rattle.flow_model.specs.Side.{Cuts};
 ghost use Rattle.flow_model.specs.Solved.{IfCut, IfFlow};
-ghost use Rattle.residual_net.specs.Residual.{IsResidualNet};
-ghost use Rattle.flow_solver.specs.Search.{HasBoundedPotentials, IsFlowShown, IsSearchResult};
+ghost use Rattle.flow_solver.specs.Search.{IsPartialSolution};
 
-use crate::advance::advance;
-use crate::labels::{SearchTree, is_reached, reached_nodes};
+use crate::flow_net::FlowNet;
 use flow_model::{Flow, Instance, Solved};
 use plan_base::{Items, NoMemory};
-use residual_net::Residual;
 use std::alloc::Global;
 
+/// What one more search leads to.
+#[derive(Drop)]
+pub(crate) enum Augmented {
+    /// This many units are sent now.
+    Sent { units: u64 },
+    /// No path is left. For each node whether it is on the side of the source.
+    Cut { side: Vec<bool> },
+}
+
 /// A search for a cheapest path from the source to the destination over the arcs' rooms.
-pub(crate) trait Search {
-    /// A tree whose labels no step can lower below the label of the destination.
-    fn search(
-        &self,
+pub(crate) trait Augment {
+    ghost use Rattle.flow_model.specs.Instance.{Net};
+    ghost use Rattle.flow_solver.specs.Augmented.{IfCutOff, IfSent};
+
+    ghost fits: { Self → Net → Type 0 };
+
+    /// Sends more units along a cheapest path, and changes the potentials so that they show the new flow; or finds that
+    /// no path is left.
+    fn augment(
+        &mut self,
         alloc: Global,
         instance: &Instance,
-        residual: &Residual,
-        potentials: &[i128],
-    ) -> Result<SearchTree, NoMemory>
-        requires net { residual.now.net ≡ instance.now }
-        requires residual { IsResidualNet residual.now }
-        requires bounded { HasBoundedPotentials residual.now.net potentials.now }
-        requires shown { IsFlowShown residual.now potentials.now }
-        ensures { IfOk result (λ t. IsSearchResult residual.now potentials.now t.labels.items t.parents.items) };
+        residual: &mut FlowNet,
+        potentials: &mut [i128],
+        sent: u64,
+    ) -> Result<Augmented, NoMemory>
+        requires fits { fits self.old instance.now }
+        requires net { residual.old.net ≡ instance.now }
+        requires less { sent < instance.now.demand }
+        requires partial { IsPartialSolution residual.old potentials.old sent }
+        ensures fits { OnOk result (fits self.new instance.now) }
+        ensures more { IfOk result (λ r. IfSent r (λ n. sent < n)) }
+        ensures most { IfOk result (λ r. IfSent r (λ n. n ≤ instance.now.demand)) }
+        ensures partial { IfOk result (λ r. IfSent r (λ n. IsPartialSolution residual.new potentials.new n)) }
+        ensures net { IfOk result (λ r. IfSent r (λ n. residual.new.net ≡ residual.old.net)) }
+        ensures cuts { IfOk result (λ r. IfCutOff r (λ side. Cuts instance.now side)) };
 }
 
 /// Sends units along one cheapest path after another until the demand is met, or until no path is left.
-pub(crate) fn solve_by<S: Search>(
-    search: &S,
+pub(crate) fn solve_by<A: Augment>(
+    search: &mut A,
     alloc: Global,
     instance: &Instance,
 ) -> Result<Solved, NoMemory>
+    requires { A.fits search.old instance.now }
     ensures cheapest { IfOk result (λ s. IfFlow s (λ flow p. IsCheapest instance.now flow)) }
     ensures in_order { IfOk result (λ s. IfFlow s (λ flow p. IsFilledInOrder instance.now flow)) }
     ensures shown { IfOk result (λ s. IfFlow s (λ flow p. ShowsCheapest instance.now flow p)) }
@@ -43,28 +62,20 @@ pub(crate) fn solve_by<S: Search>(
     ensures cuts { IfOk result (λ s. IfCut s (λ side. Cuts instance.now side)) }
     ensures no_flow { IfOk result (λ s. IfCut s (λ side. (flow : List ℕ) → IsFeasible instance.now flow → ⊥)) }
 {
-    let destination = instance.destination();
     let demand = instance.demand();
-    let mut residual = Residual::open(alloc, instance)?;
+    let mut residual = FlowNet::open(alloc, instance)?;
     let mut potentials = Vec::from_elem(alloc, 0, instance.nodes() as usize)?;
     let mut sent = 0;
     while sent < demand {
-        let found = search.search(alloc, instance, &residual, &potentials)?;
-        if !is_reached(found.labels[destination as usize]) {
-            let side = reached_nodes(alloc, &found.labels)?;
-            return Ok(Solved::Cut {
-                side: Items::from_vec(side),
-            });
+        let found = search.augment(alloc, instance, &mut residual, &mut potentials, sent)?;
+        match found {
+            Augmented::Sent { units } => sent = units,
+            Augmented::Cut { side } => {
+                return Ok(Solved::Cut {
+                    side: Items::from_vec(side),
+                });
+            }
         }
-        sent = advance(
-            alloc,
-            instance,
-            &mut residual,
-            &mut potentials,
-            &found.labels,
-            &found.parents,
-            sent,
-        )?;
     }
     let flow = Flow::from_vec(Vec::from_slice(alloc, residual.flow())?);
     Ok(Solved::Flow {

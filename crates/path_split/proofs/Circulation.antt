@@ -5,11 +5,11 @@ use Rattle.std.proofs.lemmas.Bool.{cases_eq, eq-eqb, ne_eqb}
 use Rattle.std.proofs.lemmas.List.Elements.{All-head, All-tail, All-cons, All-nil}
 use Rattle.std.proofs.lemmas.List.Sums.{sum_by-cons, get_or-le-sum_by}
 use Rattle.flow_model.specs.declared.instance.Arc.{Arc}
-use Rattle.flow_model.specs.Instance.{Net, IsInstance}
+use Rattle.flow_model.specs.Instance.{Net, IsInstance, no_arc}
 use Rattle.flow_model.specs.Flow.{IsFeasible, IsCheapest, leaving, entering, units_of, loads}
 use Rattle.flow_model.proofs.Balance.{sum_below, below_same, below_add, below_none, below_point, at_node, at_node-same, at_node-other, All-zip}
 use Rattle.path_split.specs.declared.edge.Edge.{Edge}
-use Rattle.path_split.specs.Path.{HasArc, no_arc}
+use Rattle.path_split.specs.Path.{HasArc}
 use Rattle.path_split.specs.Edges.{weighted_flow}
 use Rattle.path_split.specs.Walk.{weighted_sum, leaves, enters, over, whole}
 

@@ -12,12 +12,12 @@ use Rattle.std.proofs.lemmas.List.Sums.{sum_by-set, sum_by_more, sum_by_push, su
 use Rattle.std.proofs.lemmas.Slice.Zip.{get_or-zip, length-zip}
 use Rattle.plan_base.specs.declared.amount.TheConstants.{MAX}
 use Rattle.flow_model.specs.declared.instance.Arc.{Arc}
-use Rattle.flow_model.specs.Instance.{Net, IsInstance, IsGoodArc}
+use Rattle.flow_model.specs.Instance.{Net, IsInstance, IsGoodArc, no_arc}
 use Rattle.flow_model.specs.Flow.{Fits, loads}
 use Rattle.flow_model.proofs.Balance.{All-zip}
 use Rattle.path_split.proofs.Circulation.{first_of, agrees}
 use Rattle.path_split.specs.declared.edge.Edge.{Edge}
-use Rattle.path_split.specs.Path.{HasArc, no_arc}
+use Rattle.path_split.specs.Path.{HasArc}
 use Rattle.path_split.specs.Walk.{no_edge, edge_at, whole}
 use Rattle.path_split.specs.Edges.{weighted_flow, weighted_units, AreDirections, AreEdgesOf, edge_key, IsAscending, last_edge, AddOutcome, HasDirectionOf, HasEqualEnds, MergeOutcome}
 

@@ -1,18 +1,15 @@
 -- Paths of directions, and their order.
-use Rattle.std.specs.Prelude.{ℕ, ◌<◌, ◌≡◌, List, [], ◌∷◌, length, slice_index_or, ◌⊎◌}
+use Rattle.std.specs.Prelude.{ℕ, ◌<◌, ◌≡◌, List, [], ◌∷◌, length, ◌⊎◌}
 use Rattle.flow_model.specs.declared.instance.Arc.{Arc}
-
--- the default of a lookup in a list of arcs
-abbrev pub no_arc : Arc
-no_arc = record { from = 0; to = 0; room = 0; cost = 0; dir = 0 }
+use Rattle.flow_model.specs.Instance.{arc_at}
 
 -- some arc of the direction leads from one node to the other
 pub record HasArc (arcs : List Arc) (dir from to : ℕ) : Type 0 where
   pub at : ℕ
   pub within : at < length arcs
-  pub of_dir : (slice_index_or arcs at no_arc).dir ≡ dir
-  pub starts : (slice_index_or arcs at no_arc).from ≡ from
-  pub ends : (slice_index_or arcs at no_arc).to ≡ to
+  pub of_dir : (arc_at arcs at).dir ≡ dir
+  pub starts : (arc_at arcs at).from ≡ from
+  pub ends : (arc_at arcs at).to ≡ to
 
 -- the directions lead from node u to node w: each starts at the node at which the one before it ends
 abbrev pub IsPath : List Arc → ℕ → List ℕ → ℕ → Type 0

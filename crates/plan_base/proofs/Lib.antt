@@ -2,3 +2,4 @@ pub mod Numbers
 pub mod Ids
 pub mod Amounts
 pub mod NodeIds
+pub mod Digits

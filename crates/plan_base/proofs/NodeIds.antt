@@ -1,5 +1,7 @@
 -- Node ids: the position of a fault, and that a written id is read back.
-use Rattle.std.proofs.Common.{◌≡◌, ℕ, ◌==◌, min, false, List, length, take, Some, None, refl, arith}
+use Rattle.std.proofs.Common.{◌≡◌, ℕ, ◌==◌, min, false, List, length, take, Some, None, Result, Ok, Err, refl, arith}
+use Rattle.std.specs.Result.{result_ok}
+use Rattle.hex.specs.declared.error.FromHexError.{FromHexError}
 use Rattle.std.specs.Prelude.{not, position}
 use Rattle.std.proofs.lemmas.Grind.{common_steps}
 use Rattle.hex.specs.Hex.{is_hex_digit}
@@ -26,3 +28,11 @@ fault_at_end text end e found other =
 pub written_node_id : (bytes : List ℕ) → IsNodeId bytes → node_id_of (node_id_text bytes) ≡ Some bytes
 unfolding node_id_of
 written_node_id bytes good = rw (decode_sized-encode_lower bytes 33 good.length_is good.fits, good.starts) refl
+
+pub ok_from : (r : Result ℕ FromHexError) (v : ℕ) → Some v ≡ result_ok r → r ≡ Ok v
+ok_from (Ok a) v e = cc
+ok_from (Err f) v e = absurd (cc)
+
+pub err_from : (r : Result ℕ FromHexError) → None ≡ result_ok r → (f : FromHexError) × (r ≡ Err f)
+err_from (Ok a) e = absurd (cc)
+err_from (Err f) e = (f, refl)

@@ -1,6 +1,8 @@
 -- Directions of a channel: its short channel id and a side, written `id/0` or `id/1`.
 use Rattle.std.specs.Prelude.{ℕ, ◌+◌, ◌==◌, ◌&&◌, Bool, List, [], ◌∷◌, ◌++◌, Option, Some, None, if◌then◌else◌}
 use Rattle.std.specs.List.{before_first, after_first}
+use Rattle.std.specs.declared.cmp.Ordering.{Ordering}
+use Rattle.std.specs.Ordering.{nat_cmp, ordering_then}
 use Rattle.plan_base.specs.Scid.{scid_of, scid_text}
 
 -- one direction of a channel; side 0 leads from the node with the lesser id
@@ -11,6 +13,10 @@ pub record Direction : Type 0 where
 -- whether two directions are the same
 abbrev pub same_dir : Direction → Direction → Bool
 same_dir a b = a.scid == b.scid && a.side == b.side
+
+-- the order of directions: by the channel's number, and then by side
+abbrev pub dir_order : Direction → Direction → Ordering
+dir_order a b = ordering_then (nat_cmp a.scid b.scid) (nat_cmp a.side b.side)
 
 -- the slash before the side
 abbrev pub is_slash : ℕ → Bool

@@ -1,9 +1,9 @@
 ghost use Rattle.std.specs.Prelude.{◌≡◌, ◌+◌, ◌^◌, ◌<◌, ◌∷◌, [], Some, string_bytes, IfOk, IfSome};
-ghost use Rattle.std.specs.Ordering.{nat_cmp, ordering_then};
+ghost use Rattle.std.specs.Ordering.{nat_cmp};
 ghost use Rattle.std.specs.Result.{result_ok};
 ghost use Rattle.plan_base.specs.Number.{number_of};
 ghost use Rattle.plan_base.specs.Scid.{scid_from, scid_new, scid_of, scid_text, block_of, transaction_of, output_of};
-ghost use Rattle.plan_base.specs.Dir.{dir_of, dir_text, side_of};
+ghost use Rattle.plan_base.specs.Dir.{dir_of, dir_order, dir_text, side_of};
 
 use crate::NoMemory;
 use crate::number::{cut_at, read_number};
@@ -170,7 +170,7 @@ fn side_text(side: u8) -> &'static str
 impl Dir {
     /// The order of directions: by the channel's number, then by side.
     pub fn compare(&self, other: &Dir) -> Ordering
-        ensures { result ≡ ordering_then (nat_cmp self.now.scid other.now.scid) (nat_cmp self.now.side other.now.side) }
+        ensures { result ≡ dir_order self.now other.now }
     {
         self.cmp(other)
     }

@@ -1,8 +1,8 @@
-ghost use Rattle.std.specs.Prelude.{◌≡◌, Some, not, position, string_bytes, IfOk, IfErr};
+ghost use Rattle.std.specs.Prelude.{◌≡◌, ℕ, Some, not, position, string_bytes, unwrap_or, IfOk, IfErr};
 ghost use Rattle.std.specs.Ordering.{nat_cmp};
 ghost use Rattle.std.specs.Cmp.Lexicographic.{slice_cmp};
 ghost use Rattle.std.specs.Result.{result_ok};
-ghost use Rattle.hex.specs.Hex.{is_hex_digit};
+ghost use Rattle.hex.specs.Hex.{is_hex_digit, hex_digit_value, pair_value, decode_sized};
 ghost use Rattle.plan_base.specs.NodeId.{node_id_from, node_id_of, node_id_text, id_fault_at};
 
 use crate::NoMemory;
@@ -72,6 +72,59 @@ fn fault_at(text: &str) -> usize
     }
 }
 
+// The value of each digit, and 255 for a byte that is no digit.
+const DIGIT_VALUES: [u8; 256] = [
+    255, 255, 255, 255, 255, 255, 255, 255, 255, 255, 255, 255, 255, 255, 255, 255, 255, 255, 255,
+    255, 255, 255, 255, 255, 255, 255, 255, 255, 255, 255, 255, 255, 255, 255, 255, 255, 255, 255,
+    255, 255, 255, 255, 255, 255, 255, 255, 255, 255, 0, 1, 2, 3, 4, 5, 6, 7, 8, 9, 255, 255, 255,
+    255, 255, 255, 255, 10, 11, 12, 13, 14, 15, 255, 255, 255, 255, 255, 255, 255, 255, 255, 255,
+    255, 255, 255, 255, 255, 255, 255, 255, 255, 255, 255, 255, 255, 255, 255, 255, 10, 11, 12, 13,
+    14, 15, 255, 255, 255, 255, 255, 255, 255, 255, 255, 255, 255, 255, 255, 255, 255, 255, 255,
+    255, 255, 255, 255, 255, 255, 255, 255, 255, 255, 255, 255, 255, 255, 255, 255, 255, 255, 255,
+    255, 255, 255, 255, 255, 255, 255, 255, 255, 255, 255, 255, 255, 255, 255, 255, 255, 255, 255,
+    255, 255, 255, 255, 255, 255, 255, 255, 255, 255, 255, 255, 255, 255, 255, 255, 255, 255, 255,
+    255, 255, 255, 255, 255, 255, 255, 255, 255, 255, 255, 255, 255, 255, 255, 255, 255, 255, 255,
+    255, 255, 255, 255, 255, 255, 255, 255, 255, 255, 255, 255, 255, 255, 255, 255, 255, 255, 255,
+    255, 255, 255, 255, 255, 255, 255, 255, 255, 255, 255, 255, 255, 255, 255, 255, 255, 255, 255,
+    255, 255, 255, 255, 255, 255, 255, 255, 255, 255, 255, 255, 255, 255, 255, 255, 255, 255, 255,
+    255, 255, 255,
+];
+
+// A table, since a test of random digits costs as much as all else that is read of an id.
+#[inline(always)]
+fn digit_value(byte: u8) -> u8
+    ensures { result ≡ unwrap_or (hex_digit_value byte) 255 }
+{
+    DIGIT_VALUES[usize::from(byte)]
+}
+
+// The byte of two digits.
+#[inline(always)]
+fn digit_pair(high: u8, low: u8) -> Option<u8>
+    ensures { (at : ℕ) → result ≡ result_ok (pair_value high low at) }
+{
+    let high = digit_value(high);
+    let low = digit_value(low);
+    if high < 16 && low < 16 {
+        Some(high * 16 + low)
+    } else {
+        None
+    }
+}
+
+fn decode_digits(digits: &[u8]) -> Option<[u8; 33]>
+    ensures { result ≡ result_ok (decode_sized digits.now 33) }
+{
+    if digits.len() != 66 {
+        return None;
+    }
+    let mut bytes = [0; 33];
+    'bytes: for i in 0..33 {
+        bytes[i] = digit_pair(digits[2 * i], digits[2 * i + 1])?;
+    }
+    Some(bytes)
+}
+
 impl NodeId {
     fn from_bytes(bytes: [u8; 33]) -> Option<NodeId>
         ensures { result ≡ node_id_from bytes }
@@ -87,11 +140,7 @@ impl NodeId {
     fn decode(text: &str) -> Option<NodeId>
         ensures { result ≡ node_id_of text.now }
     {
-        let mut bytes = [0; 33];
-        match hex::decode_to_slice(text, &mut bytes) {
-            Ok(()) => NodeId::from_bytes(bytes),
-            Err(_) => None,
-        }
+        NodeId::from_bytes(decode_digits(text.as_bytes())?)
     }
 
     /// The order of ids: by bytes, the first byte first.

@@ -4,8 +4,8 @@ use Rattle.std.specs.Prelude.{All, zip, slice_index, slice_index_or, replicate}
 use Rattle.std.proofs.lemmas.List.{get_or-replicate, length-replicate}
 use Rattle.std.proofs.lemmas.Slice.Zip.{get_or-zip, length-zip}
 use Rattle.flow_model.specs.declared.instance.Arc.{Arc}
-use Rattle.flow_model.specs.Instance.{Net, IsInstance}
-use Rattle.residual_net.specs.Residual.{ResidualNet, IsResidualNet, no_arc, arc_at}
+use Rattle.flow_model.specs.Instance.{Net, IsInstance, no_arc, arc_at}
+use Rattle.residual_net.specs.Residual.{ResidualNet, IsResidualNet}
 
 -- a property of each arc and its units, at an index
 pub at_from_zip : (P : Arc × ℕ → Type 0) (arcs : List Arc) (flow : List ℕ) (i : ℕ) → length flow ≡ length arcs → i < length arcs → All P (zip arcs flow) → P (arc_at arcs i, slice_index flow i)

@@ -8,7 +8,8 @@ use Rattle.std.proofs.lemmas.List.Elements.{All-head, All-tail}
 use Rattle.std.proofs.Math.ListN.{drop_of_length-le}
 use lib.ListN.{length-set}
 use Rattle.flow_model.specs.declared.instance.Arc.{Arc}
-use Rattle.residual_net.specs.Residual.{ResidualNet, IsResidualNet, arc_at, room_left, units_after, flow_after, HasRoomFor, HasDistinctArcs}
+use Rattle.residual_net.specs.Residual.{ResidualNet, IsResidualNet, room_left, units_after, flow_after, HasRoomFor, HasDistinctArcs}
+use Rattle.flow_model.specs.Instance.{arc_at}
 use Rattle.residual_net.proofs.Loads.{at_from_zip, zip_from_at}
 
 pub AllPairs-head : {X : Type 0} (R : X → X → Type 0) (x : X) (xs : List X) → AllPairs R (x ∷ xs) → All (R x) xs

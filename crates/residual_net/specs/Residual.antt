@@ -2,7 +2,7 @@
 -- node, and what a push along steps changes.
 use Rattle.std.specs.Prelude.{ℕ, ◌+◌, ◌-◌, ◌≤◌, ◌<◌, ◌≡◌, ◌≢◌, List, [], ◌∷◌, ◌++◌, length, AllPairs, Bool, true, false, cond, nat_eq, slice_index, slice_index_or, set}
 use Rattle.flow_model.specs.declared.instance.Arc.{Arc}
-use Rattle.flow_model.specs.Instance.{Net, IsInstance}
+use Rattle.flow_model.specs.Instance.{Net, IsInstance, arc_at}
 use Rattle.flow_model.specs.Flow.{Fits}
 
 -- an instance, and the units on each of its arcs
@@ -15,13 +15,6 @@ pub record IsResidualNet (residual : ResidualNet) : Type 0 where
   pub good : IsInstance residual.net
   pub long : length residual.flow ≡ length residual.net.arcs
   pub fits : Fits residual.net residual.flow
-
-abbrev pub no_arc : Arc
-no_arc = record { from = 0; to = 0; room = 0; cost = 0; dir = 0 }
-
--- the arc at an index
-abbrev pub arc_at : List Arc → ℕ → Arc
-arc_at arcs i = slice_index_or arcs i no_arc
 
 -- the room of a step over an arc that carries these units: forward what the arc can still take, backward what it carries
 abbrev pub room_left : Arc → Bool → ℕ → ℕ

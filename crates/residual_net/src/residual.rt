@@ -1,7 +1,7 @@
 ghost use Rattle.std.specs.Prelude.{◌≡◌, ◌<◌, ◌≤◌, ◌^◌, All, IfOk, IsFalse, IsTrue, ◌+◌, length, replicate, slice_index};
-ghost use Rattle.flow_model.specs.Instance.{IsInstance};
+ghost use Rattle.flow_model.specs.Instance.{IsInstance, arc_at};
 ghost use Rattle.flow_model.specs.Potentials.{IsSmall, reduced_cost};
-ghost use Rattle.residual_net.specs.Residual.{HasDistinctArcs, HasRoomFor, IsResidualNet, ResidualNet, arc_at, flow_after, room_left, steps_out, units_after};
+ghost use Rattle.residual_net.specs.Residual.{HasDistinctArcs, HasRoomFor, IsResidualNet, ResidualNet, flow_after, room_left, steps_out, units_after};
 
 use crate::rows::{Rows, rows_of};
 use flow_model::{Arc, Instance};

@@ -14,7 +14,7 @@ pub walk-requires-clause-reached : goal.walk-requires-clause-reached
 walk-requires-clause-reached c =
     let near = subst (λ (n : Net). slice_index c.args.labels.now n.destination < UNREACHED) (sym c.requires.net) c.requires.reached in
     let t = c.destination-destination.ensures ∙ ap (λ (n : Net). n.destination) (sym c.requires.net) in
-    subst (λ t. (k : ℕ) × (k < c.args.residual.now.net.nodes) × IsReachedNode c.args.residual.now c.args.parents.now k t) (sym t) (traced c.args.residual.now c.args.potentials.now c.args.labels.now c.args.parents.now c.args.sent c.requires.partial c.requires.found near)
+    subst (λ t. (k : ℕ) × (k < c.args.residual.now.net.nodes) × IsReachedNode c.args.residual.now c.args.parents.now k t) (sym t) (traced c.args.residual.now c.args.potentials.now c.args.labels.now c.args.parents.now c.args.sent c.requires.partial c.requires.found.tree near)
 
 pub least_room-amount-requires-clause-rooms : goal.least_room-amount-requires-clause-rooms
 least_room-amount-requires-clause-rooms c =
@@ -23,7 +23,7 @@ least_room-amount-requires-clause-rooms c =
     let t = c.destination-destination.ensures ∙ ap (λ (n : Net). n.destination) (sym c.requires.net) in
     let chain = subst₂ (λ s t. HasDepth c.args.residual.now.net.arcs c.args.parents.now s (length c.in_ok-path.path.items) t) s t c.in_ok-path.ensures.chain in
     let way = subst (λ t. c.in_ok-path.path.items ≡ parent_path c.args.residual.now.net.arcs c.args.parents.now (length c.in_ok-path.path.items) t) t c.in_ok-path.ensures.path in
-    subst (All (HasRoomFor c.args.residual.now.net.arcs c.args.residual.now.flow 1)) (sym c.deref.ensures.value) (path_rooms c.args.residual.now c.args.potentials.now c.args.labels.now c.args.parents.now c.args.sent c.requires.partial c.requires.found near c.in_ok-path.path.items chain way)
+    subst (All (HasRoomFor c.args.residual.now.net.arcs c.args.residual.now.flow 1)) (sym c.deref.ensures.value) (path_rooms c.args.residual.now c.args.potentials.now c.args.labels.now c.args.parents.now c.args.sent c.requires.partial c.requires.found.tree near c.in_ok-path.path.items chain way)
 
 pub bounds-labels-destination : goal.bounds-labels-destination
 bounds-labels-destination c =
@@ -39,7 +39,7 @@ push_path-requires-clause-distinct c =
     let t = c.destination-destination.ensures ∙ ap (λ (n : Net). n.destination) (sym c.requires.net) in
     let chain = subst₂ (λ s t. HasDepth c.args.residual.now.net.arcs c.args.parents.now s (length c.in_ok-path.path.items) t) s t c.in_ok-path.ensures.chain in
     let way = subst (λ t. c.in_ok-path.path.items ≡ parent_path c.args.residual.now.net.arcs c.args.parents.now (length c.in_ok-path.path.items) t) t c.in_ok-path.ensures.path in
-    subst HasDistinctArcs (sym c.deref-2.ensures.value) (path_distinct c.args.residual.now c.args.potentials.now c.args.labels.now c.args.parents.now c.args.sent c.requires.partial c.requires.found near c.in_ok-path.path.items chain way)
+    subst HasDistinctArcs (sym c.deref-2.ensures.value) (path_distinct c.args.residual.now c.args.potentials.now c.args.labels.now c.args.parents.now c.args.sent c.requires.partial c.requires.found.tree near c.in_ok-path.path.items chain way)
 
 pub returns-clause-partial : goal.returns-clause-partial
 returns-clause-partial c =

@@ -1,6 +1,6 @@
 use Rattle.std.proofs.Common.{List, sym, ap, subst, ◌∙◌, ◌<◌, length}
 use Rattle.flow_model.specs.declared.instance.Arc.{Arc}
-use Rattle.residual_net.specs.Residual.{arc_at}
+use Rattle.flow_model.specs.Instance.{arc_at}
 use Rattle.flow_solver.specs.Search.{tail_of, parent_of}
 use Rattle.flow_solver.proofs.Walks.{walk_known, walk_turn}
 use Rattle.flow_solver.proofs.advance.walk.Goals as goal

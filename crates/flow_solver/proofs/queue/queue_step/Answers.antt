@@ -1,51 +1,46 @@
-use Rattle.std.proofs.Common.{List, arith, refl, ap, ◌∙◌, ◌≡◌, ◌<◌, length}
-use Rattle.std.specs.Prelude.{slice_index}
-use Rattle.flow_model.specs.declared.instance.Arc.{Arc}
-use Rattle.residual_net.specs.Residual.{arc_at}
-use Rattle.flow_solver.specs.Search.{head_of}
-use Rattle.flow_solver.specs.Queue.{key_of}
-use Rattle.flow_solver.proofs.Trees.{head_in}
-use Rattle.flow_solver.proofs.Tries.{step_low}
-use Rattle.flow_solver.proofs.Queues.{grows_lowered, lowered_step}
+use Rattle.std.proofs.Common.{◌∷◌, cond, heap_items, arith, ap, subst, ◌∙◌, ◌≡◌, ◌+◌}
+use Rattle.std.specs.Prelude.{slice_index, min, nat_lt}
+use Rattle.std.specs.List.Sorted.{IsPermutation}
+use Rattle.std.specs.BinaryHeap.{KeepsHeap}
+use Rattle.std.specs.Ordering.{nat_cmp}
+use Rattle.std.proofs.lemmas.Grind.{get_or_default_zero}
+use Rattle.std.proofs.lemmas.Int.{ints}
+use Rattle.flow_solver.proofs.Turned.{seen_nodes}
+use Rattle.flow_solver.proofs.Queues.{grows_lowered}
+use Rattle.flow_solver.proofs.Seen.{meeting_lowered}
 use Rattle.flow_solver.proofs.queue.queue_step.Goals as goal
 
-pub bounds-labels-destination : goal.bounds-labels-destination
-bounds-labels-destination c = let e = c.requires.destination in let n = c.requires.tree.long in let l = c.arcs-arcs.ensures.bounds.good.ranges.ends.destination_in in omega (arith, e, n, l)
-
-pub returns-in_ok-push-clause-grows : goal.returns-in_ok-push-clause-grows
-returns-in_ok-push-clause-grows c =
-    let residual = c.args.residual.now in
-    let ok = c.arcs-arcs.ensures.bounds in
-    let arcs = residual.net.arcs in
-    let w = head_of (arc_at arcs c.args.i) c.args.back in
-    let so = c.if-try_step.ensures.lower refl in
-    let low = step_low residual c.args.potentials.now ok c.requires.shown c.requires.bounded c.args.labels.now c.args.parents.now c.requires.tree c.args.i c.args.back c.requires.known (c.if-try_step.ensures.way refl) in
-    let h = head_in residual (c.args.i, c.args.back) ok c.requires.known in
+pub returns-in_ok-push-in-Some-clause-meeting : goal.returns-in_ok-push-in-Some-clause-meeting
+returns-in_ok-push-in-Some-clause-meeting c =
+    let labels = c.args.side.now.labels.items in
+    let far = c.in-Some.node in
+    let other = c.args.other.now.labels.items in
+    let label = c.in-Some.label in
     let n = c.requires.tree.long in
-    let l : w < length c.args.labels.now = omega (arith, h, n) in
-    let facts = lowered_step residual c.args.potentials.now c.args.labels.now c.try_step.new.labels c.args.i so.0 c.args.back low l so.1 in
-    let head : c.head_of-head.result ≡ w = c.head_of-head.ensures ∙ ap (λ (xs : List Arc). head_of (arc_at xs c.args.i) c.args.back) c.arcs-arcs.ensures.value in
-    let key : c.key_of.result ≡ key_of so.0 w = c.key_of.ensures ∙ ap (λ v. key_of (slice_index c.try_step.new.labels v) v) head ∙ ap (λ a. key_of a w) facts.1 in
-    grows_lowered _ _ _ _ w so.0 _ l so.1.less so.1.is key c.in_ok-push.ensures.permutation c.in_ok-push.ensures.heap_order
+    let m = seen_nodes c.args.turned c.args.residual.now in
+    let l = c.in-Some.ensures.node in
+    let o = c.requires.other in
+    let at : c.index.result.now ≡ slice_index other far = c.index.ensures ∙ get_or_default_zero other far c.index.result.now (omega (arith, l, o)) in
+    let sum : label + c.index.result.now ≡ label + slice_index other far = ap (λ x. label + x) at in
+    meeting_lowered c.args.residual.now.net.nodes labels c.lower_over.new.side.labels.items other c.args.meeting.best c.args.meeting.node far label c.better.result.best c.better.result.node
+    (omega (arith, l, n, m)) (n ∙ m) c.in-Some.ensures.lower c.in-Some.ensures.labels
+    (c.better.ensures.best ∙ ap (λ x. min c.args.meeting.best x) sum)
+    (c.better.ensures.node ∙ ap (λ x. cond (nat_lt x c.args.meeting.best) far c.args.meeting.node) sum)
+    c.requires.meeting
 
-pub returns-in_ok-push-clause-relaxed : goal.returns-in_ok-push-clause-relaxed
-returns-in_ok-push-clause-relaxed c way =
-    let residual = c.args.residual.now in
-    let ok = c.arcs-arcs.ensures.bounds in
-    let so = c.if-try_step.ensures.lower refl in
-    let low = step_low residual c.args.potentials.now ok c.requires.shown c.requires.bounded c.args.labels.now c.args.parents.now c.requires.tree c.args.i c.args.back c.requires.known (c.if-try_step.ensures.way refl) in
-    let h = head_in residual (c.args.i, c.args.back) ok c.requires.known in
+pub returns-in_ok-push-in-Some-clause-progress : goal.returns-in_ok-push-in-Some-clause-progress
+returns-in_ok-push-in-Some-clause-progress c =
+    let far = c.in-Some.node in
     let n = c.requires.tree.long in
-    let facts = lowered_step residual c.args.potentials.now c.args.labels.now c.try_step.new.labels c.args.i so.0 c.args.back low (omega (arith, h, n)) so.1 in
-    facts.2 (slice_index c.try_step.new.labels c.args.destination)
+    let m = seen_nodes c.args.turned c.args.residual.now in
+    let l = c.in-Some.ensures.node in
+    let heap = c.in-Some.ensures.heap in
+    grows_lowered c.args.side.now.labels.items (heap_items c.args.side.now.heap) c.lower_over.new.side.labels.items (heap_items c.push.new.self) far c.in-Some.label c.key_of.result (omega (arith, l, n, m)) c.in-Some.ensures.lower c.in-Some.ensures.labels c.key_of.ensures
+    (subst (λ ks. IsPermutation (c.key_of.result ∷ ks) (heap_items c.push.new.self)) heap c.in_ok-push-in-Some.ensures.permutation)
+    (subst (λ ks. KeepsHeap nat_cmp ks (heap_items c.push.new.self)) heap c.in_ok-push-in-Some.ensures.heap_order)
 
-pub returns-in_ok-push-clause-tail : goal.returns-in_ok-push-clause-tail
-returns-in_ok-push-clause-tail c =
-    let residual = c.args.residual.now in
-    let ok = c.arcs-arcs.ensures.bounds in
-    let so = c.if-try_step.ensures.lower refl in
-    let low = step_low residual c.args.potentials.now ok c.requires.shown c.requires.bounded c.args.labels.now c.args.parents.now c.requires.tree c.args.i c.args.back c.requires.known (c.if-try_step.ensures.way refl) in
-    let h = head_in residual (c.args.i, c.args.back) ok c.requires.known in
-    let n = c.requires.tree.long in
-    let facts = lowered_step residual c.args.potentials.now c.args.labels.now c.try_step.new.labels c.args.i so.0 c.args.back low (omega (arith, h, n)) so.1 in
-    facts.0
+pub returns-in_ok-push-in-Some-clause-relaxed : goal.returns-in_ok-push-in-Some-clause-relaxed
+returns-in_ok-push-in-Some-clause-relaxed c =
+    let h = c.in-Some.ensures.relaxed in
+    let b = c.better.ensures.best in
+    omega (arith, ints, h, b)

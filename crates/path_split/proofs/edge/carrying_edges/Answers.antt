@@ -2,7 +2,7 @@ use Rattle.std.proofs.Common.{◌+◌, ◌∙◌, arith, subst, sym, ap}
 use Rattle.std.specs.Prelude.{take, zip}
 use Rattle.std.proofs.lemmas.List.{take_all}
 use Rattle.std.proofs.lemmas.Slice.Zip.{length-zip}
-use Rattle.path_split.specs.Path.{no_arc}
+use Rattle.flow_model.specs.Instance.{no_arc}
 use Rattle.path_split.specs.Edges.{AreEdgesOf}
 use Rattle.path_split.proofs.Gathered.{gathers_skip, gathers_push}
 use Rattle.path_split.proofs.edge.carrying_edges.Goals as goal

@@ -1,6 +1,6 @@
 use Rattle.std.proofs.Common.{ap, false}
 use Rattle.std.specs.Prelude.{set, slice_index_or}
-use Rattle.residual_net.specs.Residual.{no_arc}
+use Rattle.flow_model.specs.Instance.{no_arc}
 use Rattle.residual_net.proofs.Pushed.{pushing_turn, pushing_room, room_forward, room_backward}
 use Rattle.residual_net.proofs.residual.push_steps.Goals as goal
 

@@ -1,0 +1,33 @@
+-- The two searches of a search from both ends, between two of its steps; these words serve private clauses only.
+use Rattle.std.specs.Prelude.{ℕ, ◌+◌, ◌≡◌, List, length, ℤ}
+use Rattle.flow_model.specs.Instance.{Net}
+use Rattle.flow_solver.specs.Heads.{HasHeads}
+use Rattle.std.specs.BinaryHeap.{IsHeap, heap_items}
+use Rattle.std.specs.Ordering.{nat_cmp}
+use Rattle.residual_net.specs.Residual.{ResidualNet}
+use Rattle.flow_solver.specs.declared.side.Side.{Side}
+use Rattle.flow_solver.specs.Search.{IsSearchTree, sum_of_labels}
+use Rattle.flow_solver.specs.Queue.{IsQueue}
+use Rattle.flow_solver.specs.Turned.{turned, against}
+use Rattle.flow_solver.specs.Meeting.{IsMeeting}
+
+-- the source's search and the destination's, each with its tree and its queue, and their best meeting
+pub record IsTwoSided (residual : ResidualNet) (p : List ℤ) (source destination : Side) (best node : ℕ) : Type 0 where
+  pub tree : IsSearchTree residual p source.labels.items source.parents.items
+  pub heap : IsHeap nat_cmp (heap_items source.heap)
+  pub queue : IsQueue residual p source.labels.items best (heap_items source.heap)
+  pub back : IsSearchTree (turned residual) (against p) destination.labels.items destination.parents.items
+  pub back_heap : IsHeap nat_cmp (heap_items destination.heap)
+  pub back_queue : IsQueue (turned residual) (against p) destination.labels.items best (heap_items destination.heap)
+  pub meeting : IsMeeting residual.net.nodes source.labels.items destination.labels.items best node
+
+-- a number that falls with each step of a search
+abbrev pub size_of : Side → ℕ
+size_of side = sum_of_labels side.labels.items + length (heap_items side.heap)
+
+-- the first arcs of an instance's directions, and two searches over its nodes
+pub record FitsSearch (net heads : Net) (source destination : Side) : Type 0 where
+  pub heads_are : HasHeads net.arcs heads.arcs (length net.arcs)
+  pub head_nodes : heads.nodes ≡ net.nodes
+  pub source_long : length source.parents.items ≡ net.nodes
+  pub destination_long : length destination.parents.items ≡ net.nodes
