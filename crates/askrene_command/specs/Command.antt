@@ -5,13 +5,15 @@ use Rattle.plan_base.specs.declared.held.Held.{Held}
 use Rattle.plan_base.specs.Held.{IsGoodHeld}
 use Rattle.plan_base.specs.declared.amount.TheConstants.{MAX}
 use Rattle.layer.specs.Name.{is_good_name}
+use Rattle.layer.specs.Created.{IsGoodCreated}
 use Rattle.layer.specs.Update.{IsGoodUpdate}
 use Rattle.layer.specs.Bias.{IsGoodBias}
+use Rattle.layer.specs.Ask.{IsGoodAsk}
 use Rattle.askrene_command.specs.declared.command.TheConstants.{PATH_MAX}
 use Rattle.askrene_command.specs.declared.command.Inform.{Inform}
 use Rattle.askrene_command.specs.declared.command.Inform.TheVariants.{Constrained, Unconstrained, Succeeded}
 use Rattle.askrene_command.specs.declared.command.Command.{Command}
-use Rattle.askrene_command.specs.declared.command.Command.TheVariants.{CreateLayer, RemoveLayer, ListLayers, UpdateChannel, InformChannel, BiasChannel, DisableNode, Age, Reserve, Unreserve, ListReservations}
+use Rattle.askrene_command.specs.declared.command.Command.TheVariants.{CreateLayer, RemoveLayer, ListLayers, CreateChannel, UpdateChannel, InformChannel, BiasChannel, DisableNode, Age, Reserve, Unreserve, ListReservations, GetRoutes}
 
 -- the name of a layer
 abbrev pub IsGoodName : List ℕ → Type 0
@@ -37,6 +39,7 @@ abbrev pub IsGoodCommand : Command → Type 0
 IsGoodCommand (CreateLayer layer) = IsGoodName layer
 IsGoodCommand (RemoveLayer layer) = IsGoodName layer
 IsGoodCommand (ListLayers layer) = IfSome layer IsGoodName
+IsGoodCommand (CreateChannel layer channel) = IsGoodName layer × IsGoodCreated channel
 IsGoodCommand (UpdateChannel layer change) = IsGoodName layer × IsGoodUpdate change
 IsGoodCommand (InformChannel layer dir amount kind) = IsGoodName layer × IsGoodInform amount kind
 IsGoodCommand (BiasChannel layer bias) = IsGoodName layer × IsGoodBias bias
@@ -45,3 +48,4 @@ IsGoodCommand (Age layer cutoff) = IsGoodName layer
 IsGoodCommand (Reserve path) = IsGoodPath path
 IsGoodCommand (Unreserve path) = IsGoodPath path
 IsGoodCommand ListReservations = Unit {0}
+IsGoodCommand (GetRoutes ask) = IsGoodAsk ask

@@ -1,7 +1,7 @@
 ghost use Rattle.std.specs.Prelude.{◌≡◌};
 ghost use Rattle.askrene_command.specs.Command as spec;
 
-use layer::{Bias, Name, Update};
+use layer::{Ask, Bias, Created, Name, Update};
 use plan_base::{Dir, Held, Items, NodeId};
 
 /// The most items that one command reserves or unreserves.
@@ -45,6 +45,11 @@ pub enum Command {
     ListLayers {
         layer: Option<Name>,
     },
+    /// Creates a channel in a layer. Its directions are disabled until updates enable them.
+    CreateChannel {
+        layer: Name,
+        channel: Created,
+    },
     /// Overrides fields of a direction.
     UpdateChannel {
         layer: Name,
@@ -82,4 +87,6 @@ pub enum Command {
     },
     /// Lists all reservations.
     ListReservations,
+    /// Takes the snapshot from which routes are computed.
+    GetRoutes(Ask),
 }

@@ -1,3 +1,5 @@
 pub mod Entries
 pub mod Steps
 pub mod Refused
+pub mod Asked
+pub mod Routes

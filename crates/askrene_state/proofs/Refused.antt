@@ -8,7 +8,7 @@ use Rattle.reservations.specs.Reservations.{are_too_many, with_reserved, set_fre
 use Rattle.layer.specs.Layer.{LayerLists}
 use Rattle.layer.specs.declared.records.Constraint.{Constraint}
 use Rattle.askrene_command.specs.declared.command.Command.{Command}
-use Rattle.askrene_command.specs.declared.command.Command.TheVariants.{CreateLayer, RemoveLayer, ListLayers, UpdateChannel, InformChannel, BiasChannel, DisableNode, Age, Reserve, Unreserve, ListReservations}
+use Rattle.askrene_command.specs.declared.command.Command.TheVariants.{CreateLayer, RemoveLayer, ListLayers, CreateChannel, UpdateChannel, InformChannel, BiasChannel, DisableNode, Age, Reserve, Unreserve, ListReservations, GetRoutes}
 use Rattle.askrene_command.specs.declared.reply.Refusal.{Refusal}
 use Rattle.askrene_command.specs.declared.reply.Refusal.TheVariants.{LayerExists, LayerUnknown, LayersFull, ReservationsFull}
 use Rattle.askrene_command.specs.declared.reply.EventReply.{EventReply}
@@ -75,6 +75,7 @@ refused_keeps service caller moment (CreateLayer layer) refusal is =
 refused_keeps service caller moment (RemoveLayer layer) refusal is =
     ap (with_layers service) (allowed_keeps (is_some (layer_in service.layers layer)) service.layers (without_layer service.layers layer) (LayerUnknown layer) refusal is)
 refused_keeps service caller moment (ListLayers layer) refusal is = refl
+refused_keeps service caller moment (CreateChannel layer channel) refusal is = ap (with_layers service) (change_keeps service.layers layer _ refusal (λ lists r. cc) is)
 refused_keeps service caller moment (UpdateChannel layer change) refusal is = ap (with_layers service) (change_keeps service.layers layer _ refusal (λ lists r. cc) is)
 refused_keeps service caller moment (InformChannel layer dir amount kind) refusal is =
     ap (with_layers service) (change_keeps service.layers layer _ refusal (informs (constraint_of dir amount moment kind) layer refusal) is)
@@ -86,3 +87,4 @@ refused_keeps service caller moment (Reserve path) refusal is =
     (ReservationsFull (length service.reservations)) refusal (λ done. cc) is)
 refused_keeps service caller moment (Unreserve path) refusal is = ap (with_reservations service) (freed_keeps service.reservations (set_free path 0 service.reservations) refusal is)
 refused_keeps service caller moment ListReservations refusal is = refl
+refused_keeps service caller moment (GetRoutes ask) refusal is = refl

@@ -4,16 +4,17 @@ use Rattle.std.specs.Option.{is_some}
 use Rattle.plan_base.specs.Dir.{Direction}
 use Rattle.layer.specs.Layer.{LayerLists}
 use Rattle.layer.specs.declared.records.Bound.TheVariants.{Max, Min}
+use Rattle.layer.specs.declared.records.Created.{Created}
 use Rattle.layer.specs.declared.records.Update.{Update}
 use Rattle.layer.specs.declared.records.Constraint.{Constraint}
 use Rattle.layer.specs.declared.records.Bias.{Bias}
-use Rattle.layer_ops.specs.Changes.{with_update, with_constraint, with_bias, with_disabled, aged}
+use Rattle.layer_ops.specs.Changes.{has_created, with_created, with_update, with_constraint, with_bias, with_disabled, aged}
 use Rattle.layer_ops.specs.LayerRefusal.{lacks_room, adds_update, adds_bias, adds_disabled}
 use Rattle.askrene_command.specs.declared.command.Inform.{Inform}
 use Rattle.askrene_command.specs.declared.command.Inform.TheVariants.{Constrained, Unconstrained, Succeeded}
 use Rattle.askrene_command.specs.declared.reply.Listed.{Listed}
 use Rattle.askrene_command.specs.declared.reply.Refusal.{Refusal}
-use Rattle.askrene_command.specs.declared.reply.Refusal.TheVariants.{LayerExists, LayerUnknown, LayersFull, LayerFull}
+use Rattle.askrene_command.specs.declared.reply.Refusal.TheVariants.{LayerExists, LayerUnknown, LayersFull, ChannelExists, LayerFull}
 use Rattle.askrene_command.specs.declared.reply.EventReply.{EventReply}
 use Rattle.askrene_command.specs.declared.reply.EventReply.TheVariants.{Done, Removed, Informed, Layers, Refused}
 use Rattle.askrene_state.specs.declared.layers.TheConstants.{LAYERS_MAX}
@@ -79,6 +80,14 @@ abbrev pub full_if : List ℕ → Bool → Option Refusal
 full_if name lacks = if lacks then Some (LayerFull name) else None
 
 -- the table of changes
+
+-- a channel that the layer has created already is refused before one entry too many
+abbrev pub create_channel_outcome : Created → List ℕ → LayerLists → Outcome
+create_channel_outcome channel name lists = record {
+  refusal = if has_created lists channel.scid then Some (ChannelExists name channel.scid) else full_if name (lacks_room true lists);
+  lists = with_created lists channel;
+  reply = Done;
+}
 
 abbrev pub update_outcome : Update → List ℕ → LayerLists → Outcome
 update_outcome change name lists = record { refusal = full_if name (lacks_room (adds_update lists change.dir) lists); lists = with_update lists change; reply = Done }

@@ -1,5 +1,6 @@
 pub mod Layers
 pub mod LayerSteps
 pub mod ReservationSteps
+pub mod RoutesStep
 pub mod Step
 pub mod Replies

@@ -1,13 +1,14 @@
 ghost use Rattle.std.specs.Prelude.{◌≡◌, ◌-◌, ℕ, List, length, IfOk, IfSome, OnErr, IsErr};
 ghost use Rattle.layer.specs.Layer.{LayerLists};
+ghost use Rattle.layer.specs.Created.{IsGoodCreated};
 ghost use Rattle.layer.specs.Update.{IsGoodUpdate};
 ghost use Rattle.layer.specs.Constraint.{IsGoodConstraint};
 ghost use Rattle.layer.specs.Bias.{IsGoodBias};
-ghost use Rattle.askrene_state.specs.LayerSteps.{Outcome, applied, update_outcome, inform_outcome, bias_outcome, disable_outcome, age_outcome};
-ghost use Rattle.askrene_state.specs.Replies.{CreatesNothing, IsReplyAfter};
+ghost use Rattle.askrene_state.specs.LayerSteps.{Outcome, applied, create_channel_outcome, update_outcome, inform_outcome, bias_outcome, disable_outcome, age_outcome};
+ghost use Rattle.askrene_state.specs.Replies.{IsReplyAfter};
 
 use askrene_command::{EventReply, Refusal};
-use layer::{Bias, Constraint, Layer, Name, Update};
+use layer::{Bias, Constraint, Created, Layer, Name, Update};
 use layer_ops::LayerRefusal;
 use plan_base::{NoMemory, NodeId};
 use std::alloc::Global;
@@ -34,18 +35,33 @@ fn reply_after(
     done: Result<(), LayerRefusal>,
     reply: EventReply,
 ) -> Result<EventReply, NoMemory>
-    requires { CreatesNothing done }
     ensures reply { IfOk result (λ told. IsReplyAfter name.now reply done told) }
     ensures err { OnErr result (IsErr done) }
 {
-    match done {
-        Ok(()) => Ok(reply),
-        Err(LayerRefusal::ChannelExists { .. }) => unreachable!(),
-        Err(LayerRefusal::LayerFull { .. }) => {
+    let Err(refusal) = done else {
+        return Ok(reply);
+    };
+    match refusal {
+        LayerRefusal::ChannelExists { scid } => {
+            let layer = name.copy(alloc)?;
+            Ok(EventReply::Refused(Refusal::ChannelExists { layer, scid }))
+        }
+        LayerRefusal::LayerFull { .. } => {
             let layer = name.copy(alloc)?;
             Ok(EventReply::Refused(Refusal::LayerFull { layer }))
         }
-        Err(LayerRefusal::NoMemory) => Err(NoMemory),
+        LayerRefusal::NoMemory => Err(NoMemory),
+    }
+}
+
+impl LayerChange for Created {
+    ghost good = { IsGoodCreated };
+
+    ghost outcome = { create_channel_outcome };
+
+    fn apply(&self, alloc: Global, name: &Name, layer: &mut Layer) -> Result<EventReply, NoMemory> {
+        let done = layer_ops::create_channel(layer, *self);
+        reply_after(alloc, name, done, EventReply::Done)
     }
 }
 

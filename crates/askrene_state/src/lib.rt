@@ -7,9 +7,10 @@ mod law;
 mod layers;
 mod listing;
 mod reserving;
+mod routing;
 mod state;
 
 pub use askrene_command::{Command, EventReply, Inform, Listed, Refusal};
-pub use law::refused_commands_change_nothing;
+pub use law::{layers_on_threads, only_asks_get_routes, refused_commands_change_nothing};
 pub use layers::LAYERS_MAX;
 pub use state::State;

@@ -9,6 +9,7 @@ ghost use Rattle.askrene_state.specs.declared.layers.TheConstants.{LAYERS_MAX};
 use crate::change::{Disable, Forget, Learn};
 use crate::layers::{Layers, constraint_learned};
 use crate::reserving;
+use crate::routing::routes;
 use askrene_command::{Command, EventReply};
 use layer::{Layer, Name};
 use one_history::Object;
@@ -90,6 +91,7 @@ impl Object for State {
             Command::CreateLayer { layer } => self.layers.create(alloc, layer),
             Command::RemoveLayer { layer } => self.layers.remove(alloc, layer),
             Command::ListLayers { layer } => self.layers.list(alloc, layer),
+            Command::CreateChannel { layer, channel } => self.layers.change(alloc, layer, channel),
             Command::UpdateChannel { layer, change } => self.layers.change(alloc, layer, change),
             Command::InformChannel {
                 layer,
@@ -115,6 +117,7 @@ impl Object for State {
                 Ok(reserving::unreserve(&mut self.reservations, path.as_slice()))
             }
             Command::ListReservations => reserving::list(alloc, &self.reservations, moment),
+            Command::GetRoutes(ask) => routes(alloc, &self.layers, &self.reservations, ask),
         }
     }
 }

@@ -4,10 +4,9 @@ use Rattle.std.specs.Option.{option_or, is_some}
 use Rattle.std.specs.Ordering.{is_eq}
 use Rattle.std.specs.BTreeMap.{BTreeMap, get, Updates}
 use Rattle.std.proofs.lemmas.Bool.Decides.{nat_tests}
-use Rattle.plan_base.specs.Dir.{Direction, same_dir}
-use Rattle.layer.specs.Places.{dir_cmp}
+use Rattle.plan_base.specs.Dir.{Direction, same_dir, dir_order}
 
-equal_is_same : (a b : Direction) → is_eq (dir_cmp a b) ≡ same_dir a b
+equal_is_same : (a b : Direction) → is_eq (dir_order a b) ≡ same_dir a b
 equal_is_same a b = grind (arith, nat_tests)
 
 same_is_equal : (a b : Direction) → same_dir a b ≡ true → a ≡ b
@@ -23,14 +22,14 @@ or_none None = refl
 or_none (Some place) = refl
 
 -- what a direction has in the map of its own, the shared map and the new shared map
-pub learned : (own shared new : BTreeMap Direction ℕ) (dir : Direction) (place : ℕ) → is_some (option_or (get dir_cmp own dir) (get dir_cmp shared dir)) ≡ false
-    → Updates dir_cmp shared new dir (Some place) → (other : Direction)
-    → option_or (get dir_cmp own other) (get dir_cmp new other) ≡ option_or (option_or (get dir_cmp own other) (get dir_cmp shared other)) (cond (same_dir dir other) (Some place) None)
+pub learned : (own shared new : BTreeMap Direction ℕ) (dir : Direction) (place : ℕ) → is_some (option_or (get dir_order own dir) (get dir_order shared dir)) ≡ false
+    → Updates dir_order shared new dir (Some place) → (other : Direction)
+    → option_or (get dir_order own other) (get dir_order new other) ≡ option_or (option_or (get dir_order own other) (get dir_order shared other)) (cond (same_dir dir other) (Some place) None)
 learned own shared new dir place absent updates other = by (same_dir dir other) refl
   where
     by : (same : Bool) → same_dir dir other ≡ same
-        → option_or (get dir_cmp own other) (get dir_cmp new other) ≡ option_or (option_or (get dir_cmp own other) (get dir_cmp shared other)) (cond (same_dir dir other) (Some place) None)
+        → option_or (get dir_order own other) (get dir_order new other) ≡ option_or (option_or (get dir_order own other) (get dir_order shared other)) (cond (same_dir dir other) (Some place) None)
     by true same =
-        let none : (get dir_cmp own other ≡ None) × (get dir_cmp shared other ≡ None) = rw (← same_is_equal dir other same) (neither (get dir_cmp own dir) (get dir_cmp shared dir) absent) in
+        let none : (get dir_order own other ≡ None) × (get dir_order shared other ≡ None) = rw (← same_is_equal dir other same) (neither (get dir_order own dir) (get dir_order shared dir) absent) in
         rw (updates.0 other, equal_is_same dir other, same, none.0, none.1) refl
-    by false same = rw (updates.0 other, equal_is_same dir other, same) (or_none (option_or (get dir_cmp own other) (get dir_cmp shared other)))
+    by false same = rw (updates.0 other, equal_is_same dir other, same) (or_none (option_or (get dir_order own other) (get dir_order shared other)))

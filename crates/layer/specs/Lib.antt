@@ -7,3 +7,5 @@ pub mod Layer
 pub mod Places
 pub mod Fields
 pub mod Owning
+pub mod Ask
+pub mod Snapshot

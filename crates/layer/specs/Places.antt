@@ -3,23 +3,17 @@ use Rattle.std.specs.Prelude.{◌≡◌, ℕ, List, Option, Some, None, position
 use Rattle.std.specs.Option.{option_or}
 use Rattle.std.specs.Arc.{arc_value}
 use Rattle.std.specs.declared.sync.Arc.{Arc}
-use Rattle.std.specs.declared.cmp.Ordering.{Ordering}
-use Rattle.std.specs.Ordering.{nat_cmp, ordering_then}
 use Rattle.std.specs.BTreeMap.{BTreeMap, get}
-use Rattle.plan_base.specs.Dir.{Direction, same_dir}
+use Rattle.plan_base.specs.Dir.{Direction, same_dir, dir_order}
 use Rattle.layer.specs.declared.places.Places.{Places}
-
--- the order of directions: by the channel's number, then by side
-abbrev pub dir_cmp : Direction → Direction → Ordering
-dir_cmp a b = ordering_then (nat_cmp a.scid b.scid) (nat_cmp a.side b.side)
 
 abbrev pub shared_place : {A : Type 0} → Option (Arc (BTreeMap Direction ℕ) A) → Direction → Option ℕ
 shared_place None dir = None
-shared_place (Some shared) dir = get dir_cmp (arc_value shared) dir
+shared_place (Some shared) dir = get dir_order (arc_value shared) dir
 
 -- the place of a direction
 abbrev pub known : Places → Direction → Option ℕ
-known places dir = option_or (get dir_cmp places.own dir) (shared_place places.shared dir)
+known places dir = option_or (get dir_order places.own dir) (shared_place places.shared dir)
 
 -- new has the places of old, and a place for one direction more, if it had none
 abbrev pub Learns : Places → Places → Direction → ℕ → Type 0

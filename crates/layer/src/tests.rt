@@ -1,7 +1,7 @@
 ghost use Rattle.layer.specs.Constraint.{IsGoodConstraint};
 
 use super::*;
-use plan_base::{Dir, NoMemory, NodeId};
+use plan_base::{Dir, Items, NoMemory, NodeId};
 use std::alloc::Global;
 use std::thread::{self, Threads};
 
@@ -184,4 +184,36 @@ fn a_copy_allocates_nothing(rt: HostRuntime) {
     if let Ok(layer) = with_bias(rt.alloc()) {
         assert!(rt; layer.copy().is_ok_and(|copy| copy.biases().len() == 1));
     }
+}
+
+fn small_ask(alloc: Global, source: NodeId, destination: NodeId) -> Result<Ask, NoMemory> {
+    let mut layers = Items::new(alloc);
+    layers.push(Asked::Auto(Auto::SourceFree))?;
+    Ok(Ask {
+        source,
+        destination,
+        amount: 5,
+        layers,
+        maxfee: 1,
+        final_cltv: 18,
+        maxdelay: 2016,
+        maxparts: 3,
+        certificate: true,
+    })
+}
+
+#[test]
+fn asks(rt: HostRuntime) {
+    let alloc = rt.alloc();
+    let (Ok(node), Ok(other)) = (NodeId::read(NODE_A), NodeId::read(NODE_D)) else {
+        return assert!(rt; false);
+    };
+    let Ok(ask) = small_ask(alloc, node, other) else {
+        return assert!(rt; false);
+    };
+    let Ok(copy) = ask.copy(alloc) else {
+        return assert!(rt; false);
+    };
+    assert!(rt; copy.source == node && copy.amount == 5 && copy.maxparts == 3 && copy.certificate);
+    assert!(rt; copy.asks_for(Auto::SourceFree) && !copy.asks_for(Auto::NoMpp));
 }

@@ -6,8 +6,6 @@ mod messages;
 #[cfg(test)]
 mod replies;
 #[cfg(test)]
-mod requests;
-#[cfg(test)]
 mod sessions;
 #[cfg(test)]
 mod steps;

@@ -22,6 +22,14 @@ fn is_line(alloc: Global, body: Result<Body, NoMemory>, text: &str) -> bool {
     line.as_slice() == expected.as_bytes()
 }
 
+// The body of a reply that is no routes.
+fn body_of(alloc: Global, at: u64, reply: &EventReply) -> Result<Body, NoMemory> {
+    if reply.is_routes() {
+        return Err(NoMemory);
+    }
+    event_body(alloc, at, reply)
+}
+
 fn dir() -> Option<Dir> {
     Dir::read("100x3x0/0").ok()
 }
@@ -78,10 +86,7 @@ fn results(rt: HostRuntime) {
             r#"{"id":null,"jsonrpc":"2.0","result":{"at":4,"layers":[]}}"#,
         ),
     ] {
-        assert!(rt;
-            is_line(alloc, event_body(alloc, at, &reply), text),
-            "at {at}"
-        );
+        assert!(rt; is_line(alloc, body_of(alloc, at, &reply), text), "at {at}");
     }
 }
 
@@ -187,20 +192,19 @@ fn layers(rt: HostRuntime) {
         let Some(reply) = reply else {
             panic!(rt; "no layer at {at}");
         };
-        assert!(rt;
-            is_line(alloc, event_body(alloc, at, &reply), text),
-            "at {at}"
-        );
+        assert!(rt; is_line(alloc, body_of(alloc, at, &reply), text), "at {at}");
     }
 }
 
 #[test]
 fn refusals(rt: HostRuntime) {
     let alloc = rt.alloc();
-    let (Ok(exists), Ok(unknown), Ok(full)) = (
+    let (Ok(exists), Ok(unknown), Ok(full), Ok(created), Ok(scid)) = (
         Name::read(alloc, "x"),
         Name::read(alloc, "y"),
         Name::read(alloc, "\"z\""),
+        Name::read(alloc, "x"),
+        Scid::read("100x3x0"),
     ) else {
         panic!(rt; "no names");
     };
@@ -221,6 +225,14 @@ fn refusals(rt: HostRuntime) {
             r#"{"error":{"code":304,"data":{"at":1024,"count":1024},"message":"too many layers"},"id":null,"jsonrpc":"2.0"}"#,
         ),
         (
+            2,
+            Refusal::ChannelExists {
+                layer: created,
+                scid,
+            },
+            r#"{"error":{"code":303,"data":{"at":2,"layer":"x","short_channel_id":"100x3x0"},"message":"channel exists"},"id":null,"jsonrpc":"2.0"}"#,
+        ),
+        (
             65537,
             Refusal::LayerFull { layer: full },
             r#"{"error":{"code":304,"data":{"at":65537,"layer":"\"z\""},"message":"layer full"},"id":null,"jsonrpc":"2.0"}"#,
@@ -238,7 +250,7 @@ fn refusals(rt: HostRuntime) {
     ] {
         let reply = EventReply::Refused(refusal);
         assert!(rt;
-            is_line(alloc, event_body(alloc, at, &reply), text),
+            is_line(alloc, body_of(alloc, at, &reply), text),
             "not {text}"
         );
     }
@@ -270,7 +282,7 @@ fn listed_at(alloc: Global, now: u64) -> Option<EventReply> {
 
 fn lists_reservations(alloc: Global, now: u64, text: &str) -> bool {
     match listed_at(alloc, now) {
-        Some(reply) => is_line(alloc, event_body(alloc, 1, &reply), text),
+        Some(reply) => is_line(alloc, body_of(alloc, 1, &reply), text),
         None => false,
     }
 }

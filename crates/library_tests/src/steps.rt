@@ -1,12 +1,13 @@
 ghost use Rattle.std.specs.Prelude.{◌≡◌, IfSome};
 ghost use Rattle.askrene_command.specs.Command.{IsGoodCommand, IsGoodPath};
 
-use askrene_state::{Command, EventReply, Inform, Refusal, State};
+use askrene_state::{Command, EventReply, Inform, Refusal, State, layers_on_threads};
 use layer::Name;
 use one_history::Object;
-use plan_base::{Dir, Held, Items, Reservation};
+use params::command_of;
+use plan_base::{Dir, Held, Items, Reservation, Scid};
+use rpc_lines::read_request;
 use std::alloc::Global;
-use std::thread::{self, Threads};
 
 fn held() -> Option<Held>
     ensures { IfSome result (λ held. held.amount ≡ 5) }
@@ -149,15 +150,82 @@ fn steps(rt: HostRuntime) {
     assert!(rt; refused_when_full(rt.alloc()) == Some(true));
 }
 
-// Passes a state to another thread by value, and one by reference.
-fn layers_elsewhere<R: Threads + Sync>(rt: &R, state: &State, moved: State) -> (usize, usize) {
-    thread::join(rt, || state.layers(), move || moved.layers())
-}
-
 #[test]
 fn between_threads(rt: HostRuntime) {
     let (Ok(state), Ok(moved)) = (State::fresh(rt.alloc()), State::fresh(rt.alloc())) else {
         return assert!(rt; false);
     };
-    assert!(rt; layers_elsewhere(&rt, &state, moved) == (0, 0));
+    assert!(rt; layers_on_threads(&rt, &state, moved) == (0, 0));
+}
+
+// What a request is told.
+#[derive(Clone, Copy)]
+enum Told {
+    Done,
+    ChannelExists,
+    LayerUnknown(&'static str),
+    Routes { layers: usize, asked: usize },
+}
+
+fn is_told(reply: &EventReply, told: Told) -> bool {
+    match reply {
+        EventReply::Done => matches!(told, Told::Done),
+        EventReply::Refused(Refusal::ChannelExists { scid, .. }) => {
+            matches!(told, Told::ChannelExists) && Scid::read("100x3x0") == Ok(*scid)
+        }
+        EventReply::Refused(Refusal::LayerUnknown { layer }) => {
+            matches!(told, Told::LayerUnknown(name) if layer.text() == name)
+        }
+        EventReply::Routes(snapshot) => {
+            let counts = (
+                snapshot.layers().len(),
+                snapshot.ask().layers.as_slice().len(),
+            );
+            matches!(told, Told::Routes { layers, asked } if counts == (layers, asked))
+        }
+        _ => false,
+    }
+}
+
+fn step(alloc: Global, state: &mut State, line: &str) -> Option<EventReply> {
+    let request = read_request(alloc, line.as_bytes()).ok()?;
+    let command = command_of(alloc, &request).ok()?;
+    state.step(alloc, 0, 100, &command).ok()
+}
+
+const TOLD: &[(&str, Told)] = &[
+    (
+        r#"{"method":"askrene-create-layer","params":["x"]}"#,
+        Told::Done,
+    ),
+    (
+        r#"{"method":"askrene-create-channel","params":["x","02aaaaaaaaaaaaaaaaaaaaaaaaaaaaaaaaaaaaaaaaaaaaaaaaaaaaaaaaaaaaaaaa","02dddddddddddddddddddddddddddddddddddddddddddddddddddddddddddddddd","100x3x0",1000]}"#,
+        Told::Done,
+    ),
+    (
+        r#"{"method":"askrene-create-channel","params":["x","02dddddddddddddddddddddddddddddddddddddddddddddddddddddddddddddddd","02aaaaaaaaaaaaaaaaaaaaaaaaaaaaaaaaaaaaaaaaaaaaaaaaaaaaaaaaaaaaaaaa","100x3x0",5]}"#,
+        Told::ChannelExists,
+    ),
+    (
+        r#"{"method":"getroutes","params":["02aaaaaaaaaaaaaaaaaaaaaaaaaaaaaaaaaaaaaaaaaaaaaaaaaaaaaaaaaaaaaaaa","02dddddddddddddddddddddddddddddddddddddddddddddddddddddddddddddddd",10,["x","auto.sourcefree","x"],0,18]}"#,
+        Told::Routes {
+            layers: 1,
+            asked: 2,
+        },
+    ),
+    (
+        r#"{"method":"getroutes","params":["02aaaaaaaaaaaaaaaaaaaaaaaaaaaaaaaaaaaaaaaaaaaaaaaaaaaaaaaaaaaaaaaa","02dddddddddddddddddddddddddddddddddddddddddddddddddddddddddddddddd",10,["x","y","z"],0,18]}"#,
+        Told::LayerUnknown("y"),
+    ),
+];
+
+#[test]
+fn channels_and_asks(rt: HostRuntime) {
+    let Ok(mut state) = State::fresh(rt.alloc()) else {
+        return assert!(rt; false);
+    };
+    for (line, told) in TOLD {
+        let reply = step(rt.alloc(), &mut state, line);
+        assert!(rt; reply.is_some_and(|reply| is_told(&reply, *told)), "{line}");
+    }
 }

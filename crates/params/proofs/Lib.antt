@@ -4,3 +4,4 @@ pub mod Least
 pub mod Members
 pub mod Trips
 pub mod Paths
+pub mod Asked

@@ -11,7 +11,7 @@ use Rattle.askrene_command.specs.declared.command.TheConstants.{PATH_MAX}
 use Rattle.params.specs.Kinds.{helds_of, is_path_length, path_value}
 use Rattle.params.specs.Printed.{held_data, path_data}
 
-count_of_items : (values : List Data) → items_len (items_of values) ≡ length values
+pub count_of_items : (values : List Data) → items_len (items_of values) ≡ length values
 count_of_items [] = refl
 count_of_items (value ∷ values) = ap suc (count_of_items values)
 

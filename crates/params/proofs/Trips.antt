@@ -1,22 +1,27 @@
 -- The parameters that are written for a command are read back as that command.
-use Rattle.std.proofs.Common.{◌≡◌, ℕ, Bool, true, false, List, [], ◌∷◌, Option, Some, Result, Ok, refl}
-use Rattle.std.specs.Prelude.{get_or, bytes_eq, option_map}
+use Rattle.std.proofs.Common.{◌≡◌, ◌≢◌, ℕ, Bool, true, false, List, [], ◌∷◌, Option, Some, Result, Ok, refl}
+use Rattle.std.specs.Prelude.{get_or, bytes_eq, option_map, is_some}
 use Rattle.std.specs.List.{list_any, list_all}
+use Rattle.std.proofs.lemmas.Bool.Decides.{Decides-eqb}
+use Rattle.std.proofs.lemmas.Slice.Eq.{slice_eq-Decides}
 use Rattle.serde_json.specs.Data.{Data, string, boolean}
-use Rattle.rpc_lines.specs.Json.{whole, dir_data, node_data}
+use Rattle.serde_json.specs.Find.{as_null}
+use Rattle.rpc_lines.specs.Json.{whole, dir_data, node_data, scid_data}
 use Rattle.plan_base.specs.Dir.{Direction}
 use Rattle.plan_base.specs.declared.held.Held.{Held}
+use Rattle.layer.specs.declared.records.Created.{Created}
 use Rattle.layer.specs.declared.records.Update.{Update}
+use Rattle.layer.specs.declared.ask.Ask.{Ask}
 use Rattle.layer.specs.declared.records.Bias.{Bias}
 use Rattle.askrene_command.specs.Command.{is_impossible}
 use Rattle.askrene_command.specs.declared.command.Command.{Command}
-use Rattle.askrene_command.specs.declared.command.Command.TheVariants.{ListLayers, UpdateChannel, InformChannel, BiasChannel, DisableNode, Age, ListReservations}
+use Rattle.askrene_command.specs.declared.command.Command.TheVariants.{ListLayers, CreateChannel, UpdateChannel, InformChannel, BiasChannel, DisableNode, Age, ListReservations, GetRoutes}
 use Rattle.askrene_command.specs.declared.command.Inform.{Inform}
 use Rattle.params.specs.Parameters.{given, required, optional, needs, may_have, refused_if, if_known, is_too_long, unknown_name}
-use Rattle.params.specs.Kinds.{name_value, node_value, dir_value, inform_value, flag_value, whole_value, whole_up_to, amount_value, amount_up_to, percent_value, path_value}
-use Rattle.params.specs.Tables.{layer_table, update_table, inform_table, bias_table, node_table, age_table, path_table}
-use Rattle.params.specs.Methods.{fee_max, delay_max, layer_command, list_layers_command, update_channel_command, inform_channel_command, bias_channel_command, disable_node_command, age_command, path_command, list_reservations_command}
-use Rattle.params.specs.Printed.{named, put_all, inform_data, percent_data, path_data, update_values, inform_values, bias_values, params_data}
+use Rattle.params.specs.Kinds.{name_value, node_value, dir_value, scid_value, positive_value, parts_value, layers_value, inform_value, flag_value, whole_value, whole_up_to, amount_value, amount_up_to, percent_value, path_value}
+use Rattle.params.specs.Tables.{layer_table, channel_table, update_table, inform_table, bias_table, node_table, age_table, path_table, routes_table}
+use Rattle.params.specs.Methods.{fee_max, delay_max, same_node, layer_command, list_layers_command, create_channel_command, get_routes_command, update_channel_command, inform_channel_command, bias_channel_command, disable_node_command, age_command, path_command, list_reservations_command}
+use Rattle.params.specs.Printed.{named, put_all, inform_data, percent_data, path_data, layers_data, channel_values, ask_values, update_values, inform_values, bias_values, params_data}
 use Rattle.params.proofs.Members.{are_distinct, value_at, found, none_unknown_in}
 
 -- each step of reading the parameters that a table and values give
@@ -42,6 +47,14 @@ if_known_back : {B : Type 0} {good : B} → (table : List (List ℕ)) (values : 
 unfolding unknown_name
 if_known_back table values listed = rw (none_unknown_in table values listed) refl
 
+not_true : (b : Bool) → (b ≡ true → ⊥) → b ≡ false
+not_true true never = absurd (never refl)
+not_true false never = refl
+
+-- nodes with different ids are not the same
+pub apart_nodes : (a b : List ℕ) → a ≢ b → same_node a b ≡ false
+apart_nodes a b apart = not_true (same_node a b) (λ same. apart ((slice_eq-Decides Decides-eqb a b (same_node a b) refl).0 same))
+
 -- the methods
 pub layer_trip : (make : List ℕ → Command) (layer : List ℕ) → required name_value (Some (string layer)) ≡ Some layer
     → layer_command make (named layer_table (Some (string layer) ∷ [])) ≡ Ok (make layer)
@@ -54,6 +67,19 @@ pub list_layers_trip : (layer : Option (List ℕ)) → optional name_value (opti
 unfolding list_layers_command is_too_long
 list_layers_trip layer b0 =
     let v = option_map string layer ∷ [] in may_have_back layer_table v 0 _ _ refl refl b0 (if_known_back layer_table v refl)
+
+pub create_channel_trip : (layer : List ℕ) (channel : Created) → required name_value (Some (string layer)) ≡ Some layer
+    → required node_value (Some (node_data channel.source)) ≡ Some channel.source
+    → required node_value (Some (node_data channel.destination)) ≡ Some channel.destination
+    → required scid_value (Some (scid_data channel.scid)) ≡ Some channel.scid
+    → required positive_value (Some (whole channel.capacity)) ≡ Some channel.capacity
+    → same_node channel.source channel.destination ≡ false
+    → create_channel_command (params_data (CreateChannel layer channel)) ≡ Ok (CreateChannel layer channel)
+unfolding create_channel_command is_too_long
+create_channel_trip layer channel b0 b1 b2 b3 b4 apart =
+    let t = channel_table in let v = channel_values layer channel in
+    needs_back t v 0 _ _ refl refl b0 (needs_back t v 1 _ _ refl refl b1 (needs_back t v 2 _ _ refl refl b2 (needs_back t v 3 _ _ refl refl b3
+    (needs_back t v 4 _ _ refl refl b4 (refused_if_back _ apart (if_known_back t v refl))))))
 
 pub update_channel_trip : (layer : List ℕ) (change : Update)
     → required name_value (Some (string layer)) ≡ Some layer
@@ -109,6 +135,32 @@ pub path_trip : (make : List Held → Command) (path : List Held) → required p
 unfolding path_command is_too_long
 path_trip make path b0 =
     let v = Some (path_data path) ∷ [] in needs_back path_table v 0 _ _ refl refl b0 (if_known_back path_table v refl)
+
+-- a value that is given is read as such
+given_back : {A : Type 0} (reads : Data → Option A) (value : Data) (good : A) → is_some (as_null value) ≡ false → required reads (Some value) ≡ Some good
+    → optional reads (Some value) ≡ Some (Some good)
+unfolding required optional
+given_back reads value good there back = rw (there, back) refl
+
+pub get_routes_trip : (ask : Ask)
+    → required node_value (Some (node_data ask.source)) ≡ Some ask.source
+    → required node_value (Some (node_data ask.destination)) ≡ Some ask.destination
+    → required positive_value (Some (whole ask.amount)) ≡ Some ask.amount
+    → required layers_value (Some (layers_data ask.layers)) ≡ Some ask.layers
+    → required amount_value (Some (whole ask.maxfee)) ≡ Some ask.maxfee
+    → required (whole_up_to delay_max) (Some (whole ask.final_cltv)) ≡ Some ask.final_cltv
+    → required (whole_up_to delay_max) (Some (whole ask.maxdelay)) ≡ Some ask.maxdelay
+    → required parts_value (Some (whole ask.maxparts)) ≡ Some ask.maxparts
+    → required flag_value (Some (boolean ask.certificate)) ≡ Some ask.certificate
+    → same_node ask.source ask.destination ≡ false
+    → get_routes_command (params_data (GetRoutes ask)) ≡ Ok (GetRoutes ask)
+unfolding get_routes_command is_too_long
+get_routes_trip ask b0 b1 b2 b3 b4 b5 b6 b7 b8 apart =
+    let t = routes_table in let v = ask_values ask in
+    needs_back t v 0 _ _ refl refl b0 (needs_back t v 1 _ _ refl refl b1 (needs_back t v 2 _ _ refl refl b2 (needs_back t v 3 _ _ refl refl b3
+    (needs_back t v 4 _ _ refl refl b4 (needs_back t v 5 _ _ refl refl b5 (may_have_back t v 6 _ _ refl refl (given_back _ _ _ refl b6)
+    (may_have_back t v 7 _ _ refl refl (given_back _ _ _ refl b7) (may_have_back t v 8 _ _ refl refl (given_back _ _ _ refl b8)
+    (refused_if_back _ apart (if_known_back t v refl))))))))))
 
 pub list_reservations_trip : list_reservations_command (params_data ListReservations) ≡ Ok ListReservations
 unfolding list_reservations_command put_all is_too_long unknown_name

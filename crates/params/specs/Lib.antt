@@ -5,3 +5,4 @@ pub mod Methods
 pub mod Printed
 pub mod Fault
 pub mod Reading
+pub mod Asked

@@ -9,9 +9,9 @@ ghost use Rattle.params.specs.Reading.{IsReading, IsSameFault};
 use crate::fault::Fault;
 use crate::names;
 use crate::readers::{
-    read_age, read_bias_channel, read_create_layer, read_disable_node, read_inform_channel,
-    read_list_layers, read_list_reservations, read_remove_layer, read_reserve, read_unreserve,
-    read_update_channel,
+    read_age, read_bias_channel, read_create_channel, read_create_layer, read_disable_node,
+    read_get_routes, read_inform_channel, read_list_layers, read_list_reservations,
+    read_remove_layer, read_reserve, read_unreserve, read_update_channel,
 };
 use askrene_command::Command;
 use plan_base::Text;
@@ -43,6 +43,7 @@ fn read_params<'a>(
         names::CREATE_LAYER => Some(read_create_layer(alloc, params)),
         names::REMOVE_LAYER => Some(read_remove_layer(alloc, params)),
         names::LIST_LAYERS => Some(read_list_layers(alloc, params)),
+        names::CREATE_CHANNEL => Some(read_create_channel(alloc, params)),
         names::UPDATE_CHANNEL => Some(read_update_channel(alloc, params)),
         names::INFORM_CHANNEL => Some(read_inform_channel(alloc, params)),
         names::BIAS_CHANNEL => Some(read_bias_channel(alloc, params)),
@@ -51,6 +52,7 @@ fn read_params<'a>(
         names::RESERVE => Some(read_reserve(alloc, params)),
         names::UNRESERVE => Some(read_unreserve(alloc, params)),
         names::LIST_RESERVATIONS => Some(read_list_reservations(params)),
+        names::GET_ROUTES => Some(read_get_routes(alloc, params)),
         _ => None,
     }
 }

@@ -5,6 +5,7 @@ mod command;
 mod fault;
 mod given;
 mod kind;
+mod layers_kind;
 mod named;
 mod names;
 mod number_kinds;
@@ -15,5 +16,5 @@ mod writers;
 mod written;
 
 pub use command::{CommandFault, command_of};
-pub use names::name_values;
+pub use names::{GET_ROUTES, name_values};
 pub use written::{method_of, params_of};

@@ -2,12 +2,14 @@ ghost use Rattle.std.specs.Prelude.{◌≡◌, ◌≤◌, ◌≤ℤ◌, pos, neg
 ghost use Rattle.serde_json.specs.View.{view};
 ghost use Rattle.plan_base.specs.Amount.{at_most_max};
 ghost use Rattle.plan_base.specs.declared.amount.TheConstants.{MAX};
-ghost use Rattle.params.specs.Kinds.{whole_value, whole_up_to, amount_value, amount_up_to, percent_value};
+ghost use Rattle.layer.specs.declared.ask.TheConstants.{PARTS_MAX};
+ghost use Rattle.params.specs.Kinds.{whole_value, whole_up_to, amount_value, amount_up_to, parts_value, percent_value, positive_value};
 ghost use Rattle.params.specs.Methods.{fee_max, delay_max};
 ghost use Rattle.rpc_lines.specs.Json.{whole};
 ghost use Rattle.params.specs.Printed.{percent_data};
 
 use crate::kind::Kind;
+use layer::PARTS_MAX;
 use plan_base::{MAX, NoMemory, read_msat};
 use serde_json::Value;
 use std::alloc::Global;
@@ -77,6 +79,60 @@ impl Kind for Amount {
 
     #[tactic(auto, unfolding(crate::specs::Kinds::amount_value, crate::specs::Kinds::whole_value))]
     fn write(_alloc: Global, good: &u64) -> Result<Value, NoMemory> {
+        Ok(Value::from(*good))
+    }
+}
+
+/// An amount in msat of at least 1.
+pub struct PositiveAmount;
+
+impl Kind for PositiveAmount {
+    type Good = u64;
+
+    ghost reads = { positive_value };
+
+    ghost prints = { whole };
+
+    ghost is_good = { λ amount. (1 ≤ amount) × (amount ≤ MAX) };
+
+    #[tactic(auto, unfolding(crate::specs::Kinds::positive_value))]
+    fn read(_alloc: Global, value: &Value) -> Result<Option<u64>, NoMemory> {
+        match read_amount(value) {
+            Some(amount) if amount >= 1 => Ok(Some(amount)),
+            _ => Ok(None),
+        }
+    }
+
+    #[tactic(auto, unfolding(crate::specs::Kinds::positive_value, crate::specs::Kinds::amount_value, crate::specs::Kinds::whole_value))]
+    fn write(_alloc: Global, good: &u64) -> Result<Value, NoMemory> {
+        Ok(Value::from(*good))
+    }
+}
+
+/// The most parts of an ask: an integer from 1 to `PARTS_MAX`.
+pub struct Parts;
+
+impl Kind for Parts {
+    type Good = u8;
+
+    ghost reads = { parts_value };
+
+    ghost prints = { whole };
+
+    ghost is_good = { λ parts. (1 ≤ parts) × (parts ≤ PARTS_MAX) };
+
+    #[tactic(auto, unfolding(crate::specs::Kinds::parts_value))]
+    fn read(_alloc: Global, value: &Value) -> Result<Option<u8>, NoMemory> {
+        match read_whole(value) {
+            Some(number) if 1 <= number && number <= u64::from(PARTS_MAX) => {
+                Ok(Some(number as u8))
+            }
+            _ => Ok(None),
+        }
+    }
+
+    #[tactic(auto, unfolding(crate::specs::Kinds::parts_value, crate::specs::Kinds::whole_value))]
+    fn write(_alloc: Global, good: &u8) -> Result<Value, NoMemory> {
         Ok(Value::from(*good))
     }
 }

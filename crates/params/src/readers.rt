@@ -2,23 +2,29 @@ ghost use Rattle.std.specs.Prelude.{◌≡◌, Ok, IfOk, IfErr};
 ghost use Rattle.serde_json.specs.View.{view};
 ghost use Rattle.askrene_command.specs.Command.{IsGoodCommand};
 ghost use Rattle.askrene_command.specs.declared.command.Command.TheVariants.{CreateLayer, RemoveLayer, Reserve, Unreserve};
-ghost use Rattle.params.specs.Methods.{layer_command, list_layers_command, update_channel_command, inform_channel_command, bias_channel_command, disable_node_command, age_command, path_command, list_reservations_command};
+ghost use Rattle.params.specs.Methods.{layer_command, list_layers_command, create_channel_command, update_channel_command, inform_channel_command, bias_channel_command, disable_node_command, age_command, path_command, list_reservations_command, get_routes_command};
 ghost use Rattle.params.specs.Reading.{IsFaultIn};
 
 use crate::fault::Fault;
 use crate::given::{name_at, optional, refuse_extra_items, refuse_unknown_names, required};
 use crate::kind::Flag;
+use crate::layers_kind::Layers;
 use crate::names::{
-    AGE_TABLE, BIAS_TABLE, EMPTY_TABLE, INFORM_TABLE, LAYER_TABLE, NODE_TABLE, PATH_TABLE,
-    UPDATE_TABLE,
+    AGE_TABLE, BIAS_TABLE, CHANNEL_TABLE, EMPTY_TABLE, INFORM_TABLE, LAYER_TABLE, NODE_TABLE,
+    PATH_TABLE, ROUTES_TABLE, UPDATE_TABLE,
 };
-use crate::number_kinds::{Amount, BaseFee, CltvDelta, Percent, ProportionalFee, Whole};
+use crate::number_kinds::{
+    Amount, BaseFee, CltvDelta, Parts, Percent, PositiveAmount, ProportionalFee, Whole,
+};
 use crate::path_kind::Path;
-use crate::text_kinds::{Direction, LayerName, Learnt, Node};
+use crate::text_kinds::{ChannelId, Direction, LayerName, Learnt, Node};
 use askrene_command::Command;
-use layer::{Bias, Update};
+use layer::{Ask, Bias, Created, PARTS_MAX, Update};
 use serde_json::Value;
 use std::alloc::Global;
+
+/// The greatest delay of a part, in blocks, if an ask gives none.
+const DEFAULT_DELAY: u16 = 2016;
 
 /// Reads the parameters of `askrene-create-layer`.
 #[tactic(auto, unfolding(crate::specs::Methods::layer_command))]
@@ -85,6 +91,32 @@ pub fn read_age<'a>(alloc: Global, params: &'a Value) -> Result<Command, Fault<'
     let cutoff = required::<Whole>(alloc, params, AGE_TABLE, 1)?;
     refuse_unknown_names(params, AGE_TABLE)?;
     Ok(Command::Age { layer, cutoff })
+}
+
+/// Reads the parameters of `askrene-create-channel`.
+#[tactic(auto, unfolding(crate::specs::Methods::create_channel_command))]
+pub fn read_create_channel<'a>(alloc: Global, params: &'a Value) -> Result<Command, Fault<'a>>
+    ensures ok { IfOk result (λ command. create_channel_command (view params.now) ≡ Ok command) }
+    ensures good { IfOk result IsGoodCommand }
+    ensures err { IfErr result (λ fault. IsFaultIn fault (create_channel_command (view params.now))) }
+{
+    refuse_extra_items(params, CHANNEL_TABLE)?;
+    let layer = required::<LayerName>(alloc, params, CHANNEL_TABLE, 0)?;
+    let source = required::<Node>(alloc, params, CHANNEL_TABLE, 1)?;
+    let destination = required::<Node>(alloc, params, CHANNEL_TABLE, 2)?;
+    let scid = required::<ChannelId>(alloc, params, CHANNEL_TABLE, 3)?;
+    let capacity = required::<PositiveAmount>(alloc, params, CHANNEL_TABLE, 4)?;
+    if source == destination {
+        return Err(Fault::Param(name_at(CHANNEL_TABLE, 2)));
+    }
+    refuse_unknown_names(params, CHANNEL_TABLE)?;
+    let channel = Created {
+        scid,
+        source,
+        destination,
+        capacity,
+    };
+    Ok(Command::CreateChannel { layer, channel })
 }
 
 /// Reads the parameters of `askrene-update-channel`.
@@ -192,4 +224,38 @@ pub fn read_list_reservations<'a>(params: &'a Value) -> Result<Command, Fault<'a
     refuse_extra_items(params, EMPTY_TABLE)?;
     refuse_unknown_names(params, EMPTY_TABLE)?;
     Ok(Command::ListReservations)
+}
+
+/// Reads the parameters of `getroutes`.
+#[tactic(auto, unfolding(crate::specs::Methods::get_routes_command))]
+pub fn read_get_routes<'a>(alloc: Global, params: &'a Value) -> Result<Command, Fault<'a>>
+    ensures ok { IfOk result (λ command. get_routes_command (view params.now) ≡ Ok command) }
+    ensures good { IfOk result IsGoodCommand }
+    ensures err { IfErr result (λ fault. IsFaultIn fault (get_routes_command (view params.now))) }
+{
+    refuse_extra_items(params, ROUTES_TABLE)?;
+    let source = required::<Node>(alloc, params, ROUTES_TABLE, 0)?;
+    let destination = required::<Node>(alloc, params, ROUTES_TABLE, 1)?;
+    let amount = required::<PositiveAmount>(alloc, params, ROUTES_TABLE, 2)?;
+    let layers = required::<Layers>(alloc, params, ROUTES_TABLE, 3)?;
+    let maxfee = required::<Amount>(alloc, params, ROUTES_TABLE, 4)?;
+    let final_cltv = required::<CltvDelta>(alloc, params, ROUTES_TABLE, 5)?;
+    let maxdelay = optional::<CltvDelta>(alloc, params, ROUTES_TABLE, 6)?;
+    let maxparts = optional::<Parts>(alloc, params, ROUTES_TABLE, 7)?;
+    let certificate = optional::<Flag>(alloc, params, ROUTES_TABLE, 8)?;
+    if source == destination {
+        return Err(Fault::Param(name_at(ROUTES_TABLE, 1)));
+    }
+    refuse_unknown_names(params, ROUTES_TABLE)?;
+    Ok(Command::GetRoutes(Ask {
+        source,
+        destination,
+        amount,
+        layers,
+        maxfee,
+        final_cltv,
+        maxdelay: maxdelay.unwrap_or(DEFAULT_DELAY),
+        maxparts: maxparts.unwrap_or(PARTS_MAX),
+        certificate: certificate.unwrap_or(false),
+    }))
 }

@@ -2,14 +2,14 @@ ghost use Rattle.std.specs.Prelude.{◌≡◌, Some, true};
 ghost use Rattle.serde_json.specs.Data.{string};
 ghost use Rattle.serde_json.specs.View.{view};
 ghost use Rattle.layer.specs.Name.{is_good_name};
-ghost use Rattle.params.specs.Kinds.{name_value, node_value, dir_value, inform_of, inform_value};
-ghost use Rattle.rpc_lines.specs.Json.{node_data, dir_data};
+ghost use Rattle.params.specs.Kinds.{name_value, node_value, dir_value, inform_of, inform_value, scid_value};
+ghost use Rattle.rpc_lines.specs.Json.{node_data, dir_data, scid_data};
 ghost use Rattle.params.specs.Printed.{inform_word, inform_data};
 
 use crate::kind::Kind;
 use askrene_command::Inform;
 use layer::{Name, NameFault};
-use plan_base::{Dir, NoMemory, NodeId};
+use plan_base::{Dir, NoMemory, NodeId, Scid};
 use serde_json::Value;
 use std::alloc::Global;
 
@@ -65,6 +65,32 @@ impl Kind for Node {
 
     #[tactic(auto, unfolding(crate::specs::Kinds::node_value))]
     fn write(alloc: Global, good: &NodeId) -> Result<Value, NoMemory> {
+        Ok(Value::String(good.write(alloc)?))
+    }
+}
+
+/// A channel, by the text of its id.
+pub struct ChannelId;
+
+impl Kind for ChannelId {
+    type Good = Scid;
+
+    ghost reads = { scid_value };
+
+    ghost prints = { scid_data };
+
+    ghost is_good = { λ _. Unit {0} };
+
+    #[tactic(auto, unfolding(crate::specs::Kinds::scid_value))]
+    fn read(_alloc: Global, value: &Value) -> Result<Option<Scid>, NoMemory> {
+        match value.as_str() {
+            Some(text) => Ok(Scid::read(text).ok()),
+            None => Ok(None),
+        }
+    }
+
+    #[tactic(auto, unfolding(crate::specs::Kinds::scid_value))]
+    fn write(alloc: Global, good: &Scid) -> Result<Value, NoMemory> {
         Ok(Value::String(good.write(alloc)?))
     }
 }

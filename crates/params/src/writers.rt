@@ -1,22 +1,28 @@
 ghost use Rattle.std.specs.Prelude.{◌≡◌, Ok, IfOk, IfSome, OnOk};
 ghost use Rattle.serde_json.specs.View.{view};
 ghost use Rattle.askrene_command.specs.Command.{IsGoodName, IsGoodInform, IsGoodPath};
-ghost use Rattle.askrene_command.specs.declared.command.Command.TheVariants.{CreateLayer, RemoveLayer, ListLayers, UpdateChannel, InformChannel, BiasChannel, DisableNode, Age, Reserve, Unreserve, ListReservations};
+ghost use Rattle.askrene_command.specs.declared.command.Command.TheVariants.{CreateLayer, RemoveLayer, ListLayers, CreateChannel, UpdateChannel, InformChannel, BiasChannel, DisableNode, Age, Reserve, Unreserve, ListReservations, GetRoutes};
+ghost use Rattle.layer.specs.Ask.{IsGoodAsk};
 ghost use Rattle.layer.specs.Bias.{IsGoodBias};
+ghost use Rattle.layer.specs.Created.{IsGoodCreated};
 ghost use Rattle.layer.specs.Update.{IsGoodUpdate};
-ghost use Rattle.params.specs.Methods.{layer_command, list_layers_command, update_channel_command, inform_channel_command, bias_channel_command, disable_node_command, age_command, path_command, list_reservations_command};
+ghost use Rattle.params.specs.Methods.{layer_command, list_layers_command, create_channel_command, update_channel_command, inform_channel_command, bias_channel_command, disable_node_command, age_command, path_command, list_reservations_command, get_routes_command};
 ghost use Rattle.params.specs.Printed.{params_data};
 
 use crate::kind::Flag;
+use crate::layers_kind::Layers;
 use crate::named::{put_optional, put_required};
 use crate::names::{
-    AGE_TABLE, BIAS_TABLE, INFORM_TABLE, LAYER_TABLE, NODE_TABLE, PATH_TABLE, UPDATE_TABLE,
+    AGE_TABLE, BIAS_TABLE, CHANNEL_TABLE, INFORM_TABLE, LAYER_TABLE, NODE_TABLE, PATH_TABLE,
+    ROUTES_TABLE, UPDATE_TABLE,
 };
-use crate::number_kinds::{Amount, BaseFee, CltvDelta, Percent, ProportionalFee, Whole};
+use crate::number_kinds::{
+    Amount, BaseFee, CltvDelta, Parts, Percent, PositiveAmount, ProportionalFee, Whole,
+};
 use crate::path_kind::Path;
-use crate::text_kinds::{Direction, LayerName, Learnt, Node};
+use crate::text_kinds::{ChannelId, Direction, LayerName, Learnt, Node};
 use askrene_command::Inform;
-use layer::{Bias, Name, Update};
+use layer::{Ask, Bias, Created, Name, Update};
 use plan_base::{Dir, Held, Items, NoMemory, NodeId};
 use serde_json::{Map, Value};
 use std::alloc::Global;
@@ -69,6 +75,27 @@ pub fn write_age(alloc: Global, layer: &Name, cutoff: u64) -> Result<Value, NoMe
     let mut members = Map::new(alloc);
     put_required::<LayerName>(alloc, &mut members, AGE_TABLE, 0, layer)?;
     put_required::<Whole>(alloc, &mut members, AGE_TABLE, 1, &cutoff)?;
+    Ok(Value::Object(members))
+}
+
+/// Writes the parameters of `askrene-create-channel`.
+#[tactic(auto, unfolding(crate::specs::Printed::put_all))]
+pub fn write_create_channel(
+    alloc: Global,
+    layer: &Name,
+    channel: &Created,
+) -> Result<Value, NoMemory>
+    requires name { IsGoodName layer.now }
+    requires channel { IsGoodCreated channel.now }
+    ensures value { IfOk result (λ value. view value ≡ params_data (CreateChannel layer.now channel.now)) }
+    ensures back { OnOk result (create_channel_command (params_data (CreateChannel layer.now channel.now)) ≡ Ok (CreateChannel layer.now channel.now)) }
+{
+    let mut members = Map::new(alloc);
+    put_required::<LayerName>(alloc, &mut members, CHANNEL_TABLE, 0, layer)?;
+    put_required::<Node>(alloc, &mut members, CHANNEL_TABLE, 1, &channel.source)?;
+    put_required::<Node>(alloc, &mut members, CHANNEL_TABLE, 2, &channel.destination)?;
+    put_required::<ChannelId>(alloc, &mut members, CHANNEL_TABLE, 3, &channel.scid)?;
+    put_required::<PositiveAmount>(alloc, &mut members, CHANNEL_TABLE, 4, &channel.capacity)?;
     Ok(Value::Object(members))
 }
 
@@ -149,4 +176,24 @@ pub fn write_no_params(alloc: Global) -> Value
     ensures back { list_reservations_command (params_data ListReservations) ≡ Ok ListReservations }
 {
     Value::Object(Map::new(alloc))
+}
+
+/// Writes the parameters of `getroutes`, all nine of them.
+#[tactic(auto, unfolding(crate::specs::Printed::put_all))]
+pub fn write_get_routes(alloc: Global, ask: &Ask) -> Result<Value, NoMemory>
+    requires { IsGoodAsk ask.now }
+    ensures value { IfOk result (λ value. view value ≡ params_data (GetRoutes ask.now)) }
+    ensures back { OnOk result (get_routes_command (params_data (GetRoutes ask.now)) ≡ Ok (GetRoutes ask.now)) }
+{
+    let mut members = Map::new(alloc);
+    put_required::<Node>(alloc, &mut members, ROUTES_TABLE, 0, &ask.source)?;
+    put_required::<Node>(alloc, &mut members, ROUTES_TABLE, 1, &ask.destination)?;
+    put_required::<PositiveAmount>(alloc, &mut members, ROUTES_TABLE, 2, &ask.amount)?;
+    put_required::<Layers>(alloc, &mut members, ROUTES_TABLE, 3, &ask.layers)?;
+    put_required::<Amount>(alloc, &mut members, ROUTES_TABLE, 4, &ask.maxfee)?;
+    put_required::<CltvDelta>(alloc, &mut members, ROUTES_TABLE, 5, &ask.final_cltv)?;
+    put_required::<CltvDelta>(alloc, &mut members, ROUTES_TABLE, 6, &ask.maxdelay)?;
+    put_required::<Parts>(alloc, &mut members, ROUTES_TABLE, 7, &ask.maxparts)?;
+    put_required::<Flag>(alloc, &mut members, ROUTES_TABLE, 8, &ask.certificate)?;
+    Ok(Value::Object(members))
 }

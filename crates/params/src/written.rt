@@ -7,8 +7,9 @@ ghost use Rattle.params.specs.Printed.{params_data};
 
 use crate::names;
 use crate::writers::{
-    write_age, write_bias_channel, write_disable_node, write_inform_channel, write_layer,
-    write_list_layers, write_no_params, write_path, write_update_channel,
+    write_age, write_bias_channel, write_create_channel, write_disable_node, write_get_routes,
+    write_inform_channel, write_layer, write_list_layers, write_no_params, write_path,
+    write_update_channel,
 };
 use askrene_command::Command;
 use plan_base::NoMemory;
@@ -23,6 +24,7 @@ pub fn method_of(command: &Command) -> &'static str
         Command::CreateLayer { .. } => names::CREATE_LAYER,
         Command::RemoveLayer { .. } => names::REMOVE_LAYER,
         Command::ListLayers { .. } => names::LIST_LAYERS,
+        Command::CreateChannel { .. } => names::CREATE_CHANNEL,
         Command::UpdateChannel { .. } => names::UPDATE_CHANNEL,
         Command::InformChannel { .. } => names::INFORM_CHANNEL,
         Command::BiasChannel { .. } => names::BIAS_CHANNEL,
@@ -31,6 +33,7 @@ pub fn method_of(command: &Command) -> &'static str
         Command::Reserve { .. } => names::RESERVE,
         Command::Unreserve { .. } => names::UNRESERVE,
         Command::ListReservations => names::LIST_RESERVATIONS,
+        Command::GetRoutes(_) => names::GET_ROUTES,
     }
 }
 
@@ -48,6 +51,7 @@ pub fn params_of(alloc: Global, command: &Command) -> Result<Value, NoMemory>
             write_layer(alloc, layer)
         }
         Command::ListLayers { layer } => write_list_layers(alloc, layer),
+        Command::CreateChannel { layer, channel } => write_create_channel(alloc, layer, channel),
         Command::UpdateChannel { layer, change } => write_update_channel(alloc, layer, change),
         Command::InformChannel {
             layer,
@@ -60,5 +64,6 @@ pub fn params_of(alloc: Global, command: &Command) -> Result<Value, NoMemory>
         Command::Age { layer, cutoff } => write_age(alloc, layer, *cutoff),
         Command::Reserve { path } | Command::Unreserve { path } => write_path(alloc, path),
         Command::ListReservations => Ok(write_no_params(alloc)),
+        Command::GetRoutes(ask) => write_get_routes(alloc, ask),
     }
 }

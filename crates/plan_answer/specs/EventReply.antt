@@ -5,10 +5,10 @@ use Rattle.rpc_lines.specs.Reply.{Content, with_result, with_error}
 use Rattle.layer.specs.declared.records.Constraint.{Constraint}
 use Rattle.askrene_command.specs.declared.reply.Listed.{Listed}
 use Rattle.askrene_command.specs.declared.reply.Refusal.{Refusal}
-use Rattle.askrene_command.specs.declared.reply.Refusal.TheVariants.{LayerExists, LayerUnknown, LayersFull, LayerFull, NotReserved, ReservationsFull}
+use Rattle.askrene_command.specs.declared.reply.Refusal.TheVariants.{LayerExists, LayerUnknown, LayersFull, ChannelExists, LayerFull, NotReserved, ReservationsFull}
 use Rattle.askrene_command.specs.declared.reply.EventReply.{EventReply}
-use Rattle.askrene_command.specs.declared.reply.EventReply.TheVariants.{Done, Removed, Informed, Layers, Reservations, Refused}
-use Rattle.rpc_lines.specs.Json.{whole}
+use Rattle.askrene_command.specs.declared.reply.EventReply.TheVariants.{Done, Removed, Informed, Layers, Reservations, Routes, Refused}
+use Rattle.rpc_lines.specs.Json.{whole, scid_data}
 use Rattle.plan_answer.specs.Records.{list_data, constraint_data, reservation_data, layer_data}
 
 -- an object whose first key is `at`
@@ -30,20 +30,29 @@ layer_error code message at layer = with_error code message (at_place at (member
 abbrev pub number_error : ℤ → List ℕ → ℕ → List ℕ → ℕ → Content
 number_error code message at key n = with_error code message (at_place at (member key (whole n) no_members))
 
+-- the layer has created the channel
+abbrev pub channel_error : ℕ → List ℕ → ℕ → Content
+channel_error at layer scid =
+    with_error (pos 303) (codes "channel exists") (at_place at (member (codes "layer") (string layer)
+    (member (codes "short_channel_id") (scid_data scid) no_members)))
+
 unfoldable pub refusal_content : ℕ → Refusal → Content
 refusal_content at (LayerExists layer) = layer_error (pos 301) (codes "layer exists") at layer
 refusal_content at (LayerUnknown layer) = layer_error (pos 302) (codes "unknown layer") at layer
 refusal_content at (LayersFull count) = number_error (pos 304) (codes "too many layers") at (codes "count") count
+refusal_content at (ChannelExists layer scid) = channel_error at layer scid
 refusal_content at (LayerFull layer) = layer_error (pos 304) (codes "layer full") at layer
 refusal_content at (NotReserved index) = number_error (pos 305) (codes "not reserved") at (codes "index") index
 refusal_content at (ReservationsFull length) = number_error (pos 307) (codes "too many reservations") at (codes "length") length
 
-unfoldable pub event_content : ℕ → EventReply → Content
-event_content at Done = with_result (at_place at no_members)
-event_content at (Removed count) = with_result (at_place at (member (codes "num_removed") (whole count) no_members))
+-- None: routes are computed from the reply, and several contents may be right
+unfoldable pub event_content : ℕ → EventReply → Option Content
+event_content at Done = Some (with_result (at_place at no_members))
+event_content at (Removed count) = Some (with_result (at_place at (member (codes "num_removed") (whole count) no_members)))
 event_content at (Informed constraint) =
-    with_result (at_place at (member (codes "constraints") (list_data constraint_data (constraint_list constraint)) no_members))
-event_content at (Layers layers) = with_result (at_place at (member (codes "layers") (list_data listed_data layers) no_members))
+    Some (with_result (at_place at (member (codes "constraints") (list_data constraint_data (constraint_list constraint)) no_members)))
+event_content at (Layers layers) = Some (with_result (at_place at (member (codes "layers") (list_data listed_data layers) no_members)))
 event_content at (Reservations now list) =
-    with_result (at_place at (member (codes "reservations") (list_data (reservation_data now) list) no_members))
-event_content at (Refused refusal) = refusal_content at refusal
+    Some (with_result (at_place at (member (codes "reservations") (list_data (reservation_data now) list) no_members)))
+event_content at (Routes snapshot) = None
+event_content at (Refused refusal) = Some (refusal_content at refusal)

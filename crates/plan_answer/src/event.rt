@@ -1,17 +1,18 @@
-ghost use Rattle.std.specs.Prelude.{◌≡◌, false, codes, IfOk};
+ghost use Rattle.std.specs.Prelude.{◌≡◌, Some, false, codes, IfOk};
 ghost use Rattle.serde_json.specs.Data.{no_members, member};
 ghost use Rattle.serde_json.specs.View.{view};
 ghost use Rattle.serde_json.specs.Written.{has_float};
 ghost use Rattle.rpc_lines.specs.Reply.{with_result};
 ghost use Rattle.plan_answer.specs.Records.{list_data, constraint_data, reservation_data};
+ghost use Rattle.askrene_command.specs.Reply.{is_routes};
 ghost use Rattle.plan_answer.specs.Order.{IsBelow};
-ghost use Rattle.plan_answer.specs.EventReply.{at_place, layer_error, number_error, constraint_list, listed_data, refusal_content, event_content};
+ghost use Rattle.plan_answer.specs.EventReply.{at_place, channel_error, layer_error, number_error, constraint_list, listed_data, refusal_content, event_content};
 
 use crate::printed::list_value;
 use crate::records::reservation_list;
 use askrene_command::{EventReply, Listed, Refusal};
 use layer::{Constraint, Name};
-use plan_base::{NoMemory, Reservation};
+use plan_base::{NoMemory, Reservation, Scid};
 use rpc_lines::Body;
 use serde_json::{Value, json};
 use std::alloc::Global;
@@ -19,12 +20,13 @@ use std::alloc::Global;
 /// The body of the reply to the entry at a position of the history.
 ///
 /// A result has `at`, and `num_removed`, `constraints`, `layers` or `reservations` if the reply has them. A refusal is an
-/// error with `at` and one more key: `layer` for 301 `layer exists`, 302 `unknown layer` and 304 `layer full`, `count` for
-/// 304 `too many layers`, the `index` of the item for 305 `not reserved`, and `length`, the number of reservations held,
+/// error with `at` and one more key: `layer` for 301 `layer exists`, 302 `unknown layer` and 304 `layer full`, `layer` and
+/// `short_channel_id` for 303 `channel exists`, `count` for 304 `too many layers`, the `index` of the item for 305 `not reserved`, and `length`, the number of reservations held,
 /// for 307 `too many reservations`.
 #[tactic(auto, unfolding(crate::specs::EventReply::event_content))]
 pub fn event_body(alloc: Global, at: u64, reply: &EventReply) -> Result<Body, NoMemory>
-    ensures { IfOk result (λ body. body ≡ event_content at reply.now) }
+    requires { is_routes reply.now ≡ false }
+    ensures { IfOk result (λ body. Some body ≡ event_content at reply.now) }
 {
     match reply {
         EventReply::Done => Ok(Body::place(at)),
@@ -32,6 +34,7 @@ pub fn event_body(alloc: Global, at: u64, reply: &EventReply) -> Result<Body, No
         EventReply::Informed { constraint } => informed(alloc, at, constraint),
         EventReply::Layers(layers) => listed(alloc, at, layers.as_slice()),
         EventReply::Reservations { now, list } => reservations(alloc, at, *now, list.as_slice()),
+        EventReply::Routes(_) => unreachable!(),
         EventReply::Refused(refusal) => refused(alloc, at, refusal),
     }
 }
@@ -46,6 +49,7 @@ fn refused(alloc: Global, at: u64, refusal: &Refusal) -> Result<Body, NoMemory>
         Refusal::LayersFull { count } => {
             number_body(alloc, 304, "too many layers", at, "count", *count)
         }
+        Refusal::ChannelExists { layer, scid } => channel_body(alloc, at, layer, scid),
         Refusal::LayerFull { layer } => layer_body(alloc, 304, "layer full", at, layer),
         Refusal::NotReserved { index } => {
             number_body(alloc, 305, "not reserved", at, "index", *index)
@@ -105,6 +109,15 @@ fn reservations(alloc: Global, at: u64, now: u64, list: &[Reservation]) -> Resul
 {
     let reservations = reservation_list(alloc, now, list)?;
     result_with(alloc, at, "reservations", reservations)
+}
+
+// The error for a channel that the layer has created already.
+fn channel_body(alloc: Global, at: u64, layer: &Name, scid: &Scid) -> Result<Body, NoMemory>
+    ensures { IfOk result (λ body. body ≡ channel_error at layer.now scid.now) }
+{
+    let channel = scid.write(alloc)?;
+    let detail = json!(in alloc; {"at": at, "layer": layer.text(), "short_channel_id": channel})?;
+    Body::error(alloc, 303, "channel exists", detail)
 }
 
 // An error with the name of a layer.

@@ -1,5 +1,5 @@
 -- What a command may be answered at its position in the history.
-use Rattle.std.specs.Prelude.{◌≡◌, ℕ, List, length, take, slice_get, IfSome}
+use Rattle.std.specs.Prelude.{◌≡◌, ℕ, Some, List, length, take, slice_get, IfSome}
 use Rattle.one_history.specs.declared.entry.Entry.{Entry}
 use Rattle.one_history.specs.declared.entry.Told.{Told}
 use Rattle.one_history.specs.History.{fold}
@@ -15,7 +15,7 @@ reply_after history entry = reply_of (fold next_of no_service history) entry.cal
 
 -- A content answers an entry after a history. A relation: a command may have several right answers.
 abbrev pub Answers : List (Entry Command) → Entry Command → Content → Type 0
-Answers history entry content = content ≡ event_content (length history) (reply_after history entry)
+Answers history entry content = Some content ≡ event_content (length history) (reply_after history entry)
 
 -- the caller of an entry after a history was told this
 pub record IsToldAfter (history : List (Entry Command)) (entry : Entry Command) (told : Told EventReply) : Type 0 where

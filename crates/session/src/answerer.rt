@@ -29,6 +29,10 @@ impl Answerer for EventAnswers {
     ghost answers = { λ _. Answers };
 
     fn answer(&self, alloc: Global, told: Told<EventReply>) -> Result<Body, NoMemory> {
+        // no line of a session asks for routes yet
+        if told.reply.is_routes() {
+            return Err(NoMemory);
+        }
         event_body(alloc, told.at, &told.reply)
     }
 }

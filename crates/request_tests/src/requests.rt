@@ -459,9 +459,210 @@ const ROWS: &[(&str, &str, Wanted)] = &[
     ),
 ];
 
+const CHANNELS: &[(&str, &str, Wanted)] = &[
+    (
+        "askrene-create-channel",
+        r#"["x","02aaaaaaaaaaaaaaaaaaaaaaaaaaaaaaaaaaaaaaaaaaaaaaaaaaaaaaaaaaaaaaaa","02dddddddddddddddddddddddddddddddddddddddddddddddddddddddddddddddd","100x3x0",1]"#,
+        Wanted::Good,
+    ),
+    (
+        "askrene-create-channel",
+        r#"{"layer":"x","source":"02dddddddddddddddddddddddddddddddddddddddddddddddddddddddddddddddd","destination":"02aaaaaaaaaaaaaaaaaaaaaaaaaaaaaaaaaaaaaaaaaaaaaaaaaaaaaaaaaaaaaaaa","short_channel_id":"0100x3x0","capacity_msat":"2100000000000000000msat"}"#,
+        Wanted::Good,
+    ),
+    (
+        "askrene-create-channel",
+        r#"["auto.x","02aaaaaaaaaaaaaaaaaaaaaaaaaaaaaaaaaaaaaaaaaaaaaaaaaaaaaaaaaaaaaaaa","02dddddddddddddddddddddddddddddddddddddddddddddddddddddddddddddddd","100x3x0",1]"#,
+        Wanted::Param("layer"),
+    ),
+    (
+        "askrene-create-channel",
+        r#"["x","04","02dddddddddddddddddddddddddddddddddddddddddddddddddddddddddddddddd","100x3x0",1]"#,
+        Wanted::Param("source"),
+    ),
+    (
+        "askrene-create-channel",
+        r#"["x","02aaaaaaaaaaaaaaaaaaaaaaaaaaaaaaaaaaaaaaaaaaaaaaaaaaaaaaaaaaaaaaaa"]"#,
+        Wanted::Param("destination"),
+    ),
+    (
+        "askrene-create-channel",
+        r#"["x","02aaaaaaaaaaaaaaaaaaaaaaaaaaaaaaaaaaaaaaaaaaaaaaaaaaaaaaaaaaaaaaaa","02dddddddddddddddddddddddddddddddddddddddddddddddddddddddddddddddd","100x3x0/0",1]"#,
+        Wanted::Param("short_channel_id"),
+    ),
+    (
+        "askrene-create-channel",
+        r#"["x","02aaaaaaaaaaaaaaaaaaaaaaaaaaaaaaaaaaaaaaaaaaaaaaaaaaaaaaaaaaaaaaaa","02dddddddddddddddddddddddddddddddddddddddddddddddddddddddddddddddd","100x3x0",0]"#,
+        Wanted::Param("capacity_msat"),
+    ),
+    (
+        "askrene-create-channel",
+        r#"["x","02aaaaaaaaaaaaaaaaaaaaaaaaaaaaaaaaaaaaaaaaaaaaaaaaaaaaaaaaaaaaaaaa","02dddddddddddddddddddddddddddddddddddddddddddddddddddddddddddddddd","100x3x0",2100000000000000001]"#,
+        Wanted::Param("capacity_msat"),
+    ),
+    (
+        "askrene-create-channel",
+        r#"["x","02dddddddddddddddddddddddddddddddddddddddddddddddddddddddddddddddd","02DDDDDDDDDDDDDDDDDDDDDDDDDDDDDDDDDDDDDDDDDDDDDDDDDDDDDDDDDDDDDDDD","100x3x0",1]"#,
+        Wanted::Param("destination"),
+    ),
+    (
+        "askrene-create-channel",
+        r#"["x","02dddddddddddddddddddddddddddddddddddddddddddddddddddddddddddddddd","02DDDDDDDDDDDDDDDDDDDDDDDDDDDDDDDDDDDDDDDDDDDDDDDDDDDDDDDDDDDDDDDD","100x3x0",0]"#,
+        Wanted::Param("capacity_msat"),
+    ),
+    (
+        "askrene-create-channel",
+        r#"["x","02aaaaaaaaaaaaaaaaaaaaaaaaaaaaaaaaaaaaaaaaaaaaaaaaaaaaaaaaaaaaaaaa","02dddddddddddddddddddddddddddddddddddddddddddddddddddddddddddddddd","100x3x0",1,2]"#,
+        Wanted::Param("params"),
+    ),
+    (
+        "askrene-create-channel",
+        r#"{"layer":"x","source":"02dddddddddddddddddddddddddddddddddddddddddddddddddddddddddddddddd","destination":"02aaaaaaaaaaaaaaaaaaaaaaaaaaaaaaaaaaaaaaaaaaaaaaaaaaaaaaaaaaaaaaaa","short_channel_id":"100x3x0","capacity_msat":1,"b":1}"#,
+        Wanted::Param("b"),
+    ),
+];
+
+const ASKS: &[(&str, &str, Wanted)] = &[
+    (
+        "getroutes",
+        r#"["02aaaaaaaaaaaaaaaaaaaaaaaaaaaaaaaaaaaaaaaaaaaaaaaaaaaaaaaaaaaaaaaa","02dddddddddddddddddddddddddddddddddddddddddddddddddddddddddddddddd",1,[],0,18]"#,
+        Wanted::Good,
+    ),
+    (
+        "getroutes",
+        r#"["02aaaaaaaaaaaaaaaaaaaaaaaaaaaaaaaaaaaaaaaaaaaaaaaaaaaaaaaaaaaaaaaa","02dddddddddddddddddddddddddddddddddddddddddddddddddddddddddddddddd","5msat",["x","auto.localchans","auto","auto.sourcefree","auto.no_mpp_support"],"0",65535,null,null,null]"#,
+        Wanted::Good,
+    ),
+    (
+        "getroutes",
+        r#"{"source":"02aaaaaaaaaaaaaaaaaaaaaaaaaaaaaaaaaaaaaaaaaaaaaaaaaaaaaaaaaaaaaaaa","destination":"02dddddddddddddddddddddddddddddddddddddddddddddddddddddddddddddddd","amount_msat":2100000000000000000,"layers":["x","x"],"maxfee_msat":2100000000000000000,"final_cltv":0,"maxdelay":65535,"maxparts":1,"certificate":true}"#,
+        Wanted::Good,
+    ),
+    (
+        "getroutes",
+        r#"[5,"02dddddddddddddddddddddddddddddddddddddddddddddddddddddddddddddddd",1,[],0,18]"#,
+        Wanted::Param("source"),
+    ),
+    (
+        "getroutes",
+        r#"{"source":"02aaaaaaaaaaaaaaaaaaaaaaaaaaaaaaaaaaaaaaaaaaaaaaaaaaaaaaaaaaaaaaaa"}"#,
+        Wanted::Param("destination"),
+    ),
+    (
+        "getroutes",
+        r#"["02aaaaaaaaaaaaaaaaaaaaaaaaaaaaaaaaaaaaaaaaaaaaaaaaaaaaaaaaaaaaaaaa","02dddddddddddddddddddddddddddddddddddddddddddddddddddddddddddddddd",0,[],0,18]"#,
+        Wanted::Param("amount_msat"),
+    ),
+    (
+        "getroutes",
+        r#"["02aaaaaaaaaaaaaaaaaaaaaaaaaaaaaaaaaaaaaaaaaaaaaaaaaaaaaaaaaaaaaaaa","02dddddddddddddddddddddddddddddddddddddddddddddddddddddddddddddddd",2100000000000000001,[],0,18]"#,
+        Wanted::Param("amount_msat"),
+    ),
+    (
+        "getroutes",
+        r#"["02aaaaaaaaaaaaaaaaaaaaaaaaaaaaaaaaaaaaaaaaaaaaaaaaaaaaaaaaaaaaaaaa","02dddddddddddddddddddddddddddddddddddddddddddddddddddddddddddddddd",1,null,0,18]"#,
+        Wanted::Param("layers"),
+    ),
+    (
+        "getroutes",
+        r#"["02aaaaaaaaaaaaaaaaaaaaaaaaaaaaaaaaaaaaaaaaaaaaaaaaaaaaaaaaaaaaaaaa","02dddddddddddddddddddddddddddddddddddddddddddddddddddddddddddddddd",1,["auto."],0,18]"#,
+        Wanted::Param("layers"),
+    ),
+    (
+        "getroutes",
+        r#"["02aaaaaaaaaaaaaaaaaaaaaaaaaaaaaaaaaaaaaaaaaaaaaaaaaaaaaaaaaaaaaaaa","02dddddddddddddddddddddddddddddddddddddddddddddddddddddddddddddddd",1,["x",5],0,18]"#,
+        Wanted::Param("layers"),
+    ),
+    (
+        "getroutes",
+        r#"["02aaaaaaaaaaaaaaaaaaaaaaaaaaaaaaaaaaaaaaaaaaaaaaaaaaaaaaaaaaaaaaaa","02dddddddddddddddddddddddddddddddddddddddddddddddddddddddddddddddd",1,["x","x","x","x","x","x","x","x","x","x","x","x","x","x","x","x","x","x","x","x","x","x","x","x","x","x","x","x","x","x","x","x","x","x","x","x","x","x","x","x","x","x","x","x","x","x","x","x","x","x","x","x","x","x","x","x","x","x","x","x","x","x","x","x"],0,18]"#,
+        Wanted::Good,
+    ),
+    (
+        "getroutes",
+        r#"["02aaaaaaaaaaaaaaaaaaaaaaaaaaaaaaaaaaaaaaaaaaaaaaaaaaaaaaaaaaaaaaaa","02dddddddddddddddddddddddddddddddddddddddddddddddddddddddddddddddd",1,["x","x","x","x","x","x","x","x","x","x","x","x","x","x","x","x","x","x","x","x","x","x","x","x","x","x","x","x","x","x","x","x","x","x","x","x","x","x","x","x","x","x","x","x","x","x","x","x","x","x","x","x","x","x","x","x","x","x","x","x","x","x","x","x","x"],0,18]"#,
+        Wanted::Param("layers"),
+    ),
+    (
+        "getroutes",
+        r#"["02aaaaaaaaaaaaaaaaaaaaaaaaaaaaaaaaaaaaaaaaaaaaaaaaaaaaaaaaaaaaaaaa","02dddddddddddddddddddddddddddddddddddddddddddddddddddddddddddddddd",1,[],-1,18]"#,
+        Wanted::Param("maxfee_msat"),
+    ),
+    (
+        "getroutes",
+        r#"["02aaaaaaaaaaaaaaaaaaaaaaaaaaaaaaaaaaaaaaaaaaaaaaaaaaaaaaaaaaaaaaaa","02dddddddddddddddddddddddddddddddddddddddddddddddddddddddddddddddd",1,[],0,65536]"#,
+        Wanted::Param("final_cltv"),
+    ),
+    (
+        "getroutes",
+        r#"["02aaaaaaaaaaaaaaaaaaaaaaaaaaaaaaaaaaaaaaaaaaaaaaaaaaaaaaaaaaaaaaaa","02dddddddddddddddddddddddddddddddddddddddddddddddddddddddddddddddd",1,[],0,18,65536]"#,
+        Wanted::Param("maxdelay"),
+    ),
+    (
+        "getroutes",
+        r#"["02aaaaaaaaaaaaaaaaaaaaaaaaaaaaaaaaaaaaaaaaaaaaaaaaaaaaaaaaaaaaaaaa","02dddddddddddddddddddddddddddddddddddddddddddddddddddddddddddddddd",1,[],0,18,null,0]"#,
+        Wanted::Param("maxparts"),
+    ),
+    (
+        "getroutes",
+        r#"["02aaaaaaaaaaaaaaaaaaaaaaaaaaaaaaaaaaaaaaaaaaaaaaaaaaaaaaaaaaaaaaaa","02dddddddddddddddddddddddddddddddddddddddddddddddddddddddddddddddd",1,[],0,18,null,101]"#,
+        Wanted::Param("maxparts"),
+    ),
+    (
+        "getroutes",
+        r#"["02aaaaaaaaaaaaaaaaaaaaaaaaaaaaaaaaaaaaaaaaaaaaaaaaaaaaaaaaaaaaaaaa","02dddddddddddddddddddddddddddddddddddddddddddddddddddddddddddddddd",1,[],0,18,null,null,1]"#,
+        Wanted::Param("certificate"),
+    ),
+    (
+        "getroutes",
+        r#"["02dddddddddddddddddddddddddddddddddddddddddddddddddddddddddddddddd","02DDDDDDDDDDDDDDDDDDDDDDDDDDDDDDDDDDDDDDDDDDDDDDDDDDDDDDDDDDDDDDDD",1,[],0,18]"#,
+        Wanted::Param("destination"),
+    ),
+    (
+        "getroutes",
+        r#"["02dddddddddddddddddddddddddddddddddddddddddddddddddddddddddddddddd","02DDDDDDDDDDDDDDDDDDDDDDDDDDDDDDDDDDDDDDDDDDDDDDDDDDDDDDDDDDDDDDDD",1,[],0,18,null,101]"#,
+        Wanted::Param("maxparts"),
+    ),
+    (
+        "getroutes",
+        r#"["02aaaaaaaaaaaaaaaaaaaaaaaaaaaaaaaaaaaaaaaaaaaaaaaaaaaaaaaaaaaaaaaa","02dddddddddddddddddddddddddddddddddddddddddddddddddddddddddddddddd",1,[],0,18,null,null,null,null]"#,
+        Wanted::Param("params"),
+    ),
+    (
+        "getroutes",
+        r#"{"source":"02dddddddddddddddddddddddddddddddddddddddddddddddddddddddddddddddd","destination":"02dddddddddddddddddddddddddddddddddddddddddddddddddddddddddddddddd","amount_msat":1,"layers":[],"maxfee_msat":0,"final_cltv":18,"b":1}"#,
+        Wanted::Param("destination"),
+    ),
+    (
+        "getroutes",
+        r#"{"source":"02aaaaaaaaaaaaaaaaaaaaaaaaaaaaaaaaaaaaaaaaaaaaaaaaaaaaaaaaaaaaaaaa","destination":"02dddddddddddddddddddddddddddddddddddddddddddddddddddddddddddddddd","amount_msat":1,"layers":[],"maxfee_msat":0,"final_cltv":18,"b":null}"#,
+        Wanted::Param("b"),
+    ),
+];
+
 #[test]
 fn requests_are_read_or_refused(rt: HostRuntime) {
     for (method, params, wanted) in ROWS {
+        assert!(rt;
+            is_answered(rt.alloc(), method, params, *wanted),
+            "{method} {params}"
+        );
+    }
+}
+
+#[test]
+fn channels_are_read_or_refused(rt: HostRuntime) {
+    for (method, params, wanted) in CHANNELS {
+        assert!(rt;
+            is_answered(rt.alloc(), method, params, *wanted),
+            "{method} {params}"
+        );
+    }
+}
+
+#[test]
+fn asks_are_read_or_refused(rt: HostRuntime) {
+    for (method, params, wanted) in ASKS {
         assert!(rt;
             is_answered(rt.alloc(), method, params, *wanted),
             "{method} {params}"
@@ -591,6 +792,16 @@ const WRITTEN: &[(&str, &str, &str)] = &[
         r#"{"path":[{"amount_msat":2100000000000000000,"short_channel_id_dir":"100x3x0/0"}]}"#,
     ),
     ("askrene-listreservations", "[]", "{}"),
+    (
+        "askrene-create-channel",
+        r#"["x","02aaaaaaaaaaaaaaaaaaaaaaaaaaaaaaaaaaaaaaaaaaaaaaaaaaaaaaaaaaaaaaaa","02dddddddddddddddddddddddddddddddddddddddddddddddddddddddddddddddd","0100x3x0","1000msat"]"#,
+        r#"{"capacity_msat":1000,"destination":"02dddddddddddddddddddddddddddddddddddddddddddddddddddddddddddddddd","layer":"x","short_channel_id":"100x3x0","source":"02aaaaaaaaaaaaaaaaaaaaaaaaaaaaaaaaaaaaaaaaaaaaaaaaaaaaaaaaaaaaaaaa"}"#,
+    ),
+    (
+        "getroutes",
+        r#"["02aaaaaaaaaaaaaaaaaaaaaaaaaaaaaaaaaaaaaaaaaaaaaaaaaaaaaaaaaaaaaaaa","02dddddddddddddddddddddddddddddddddddddddddddddddddddddddddddddddd","5msat",["x","auto.sourcefree","x"],0,18]"#,
+        r#"{"amount_msat":5,"certificate":false,"destination":"02dddddddddddddddddddddddddddddddddddddddddddddddddddddddddddddddd","final_cltv":18,"layers":["x","auto.sourcefree"],"maxdelay":2016,"maxfee_msat":0,"maxparts":100,"source":"02aaaaaaaaaaaaaaaaaaaaaaaaaaaaaaaaaaaaaaaaaaaaaaaaaaaaaaaaaaaaaaaa"}"#,
+    ),
 ];
 
 #[test]

@@ -1,0 +1,5 @@
+//! Tests of the reading and the writing of commands, which are long to prove.
+#![tactic(auto)]
+
+#[cfg(test)]
+mod requests;
