@@ -1,0 +1,3 @@
+pub mod LocalLayer
+pub mod Expanded
+pub mod Added

@@ -1,0 +1,13 @@
+pub mod Dirs
+pub mod Ids
+pub mod Ending
+pub mod Each
+pub mod Filtered
+pub mod Merging
+pub mod Maps
+pub mod Firsts
+pub mod Fields
+pub mod Bounds
+pub mod Created
+pub mod Rules
+pub mod Views

@@ -1,0 +1,11 @@
+pub mod View
+pub mod Rules
+pub mod Built
+pub mod First
+pub mod Given
+pub mod Known
+pub mod Channels
+pub mod Disabled
+pub mod Merged
+pub mod Opened
+pub mod Ends
