@@ -1,0 +1,13 @@
+pub mod Costs
+pub mod Built
+pub mod Building
+pub mod Routing
+pub mod Carried
+pub mod Raising
+pub mod Listing
+pub mod GoodRoutes
+pub mod UnitsOn
+pub mod Following
+pub mod Chances
+pub mod Passing
+pub mod Same

@@ -1,0 +1,4 @@
+pub mod Loads
+pub mod Caps
+pub mod Untried
+pub mod Solution

@@ -1,0 +1,10 @@
+pub mod View
+pub mod State
+pub mod Instance
+pub mod Amounts
+pub mod Parts
+pub mod Faults
+pub mod Next
+pub mod Chance
+pub mod Runs
+pub mod Laws
