@@ -1,5 +1,5 @@
 -- When a run ends well, and a session that could not begin.
-use Rattle.std.proofs.Common.{◌≡◌, ◌≢◌, ◌≤◌, ℕ, List, [], length, Some, None, Option, refl}
+use Rattle.std.proofs.Common.{◌≡◌, ◌≢◌, ◌≤◌, ℕ, List, [], length, Some, None, Option, Bool, true, false, refl, sym, subst, arith}
 use Rattle.std.specs.Prelude.{IfSome, IsSomeAnd}
 use Rattle.port_io.specs.declared.session_end.SessionEnd.{SessionEnd}
 use Rattle.port_io.specs.declared.session_end.SessionEnd.TheVariants as Session
@@ -9,10 +9,21 @@ use Rattle.check_command.specs.declared.command.TheConstants.{TEXT_MAX}
 use Rattle.session.specs.Answers.{Answers}
 use Rattle.session.specs.Caller.{only_caller}
 use Rattle.session.specs.Outcome.{SessionState}
-use Rattle.session.specs.Session.{IsServable, EndsWell}
+use Rattle.session.specs.Session.{IsServable, IsToldSession, EndsWell}
+use Rattle.std.specs.Io.KnownBytes.{Appends}
+use Rattle.line_cut.specs.WholeLines.{whole_lines}
+use Rattle.std.proofs.lemmas.List.{append-nil}
+use Rattle.channel_map.specs.declared.edge.Edge.{Edge}
 use Rattle.session.proofs.Going.{told_none}
-use Rattle.askrened.specs.declared.status.Status.TheVariants.{Usage, NoMemory}
-use Rattle.askrened.specs.Run.{IsAsking, AskEndsWell, CheckEndsWell, IsCheckable}
+use Rattle.askrened.specs.declared.status.Status.{Status}
+use Rattle.askrened.specs.declared.status.Status.TheVariants.{Ok, Usage, MapRefused, ReadFault, WriteFault, NoMemory, CheckNo, SessionFull, Long}
+use Rattle.channel_map.specs.declared.fault.MapFault.{MapFault}
+use Rattle.channel_map.specs.declared.fault.MapFault.TheVariants as Fault
+use Rattle.channel_map.specs.Reading.{Reading, map_reading, local_reading, IsMapFault}
+use Rattle.askrened.specs.Form.{Bytes}
+use Rattle.askrened.specs.Load.{Files, Reader, IsAccepted, IsGood, IsGoodFile, IsKnownGood, IsLoadedAs, IsFaultOf, IsRefusedFor, IsLoadFault, TellsFiles}
+use Rattle.askrened.specs.Run.{RunSpan, IsAsking, IsServed, IsAsk, AskEndsWell, CheckEndsWell, IsCheckable}
+use Rattle.askrened.proofs.Loads.{loaded_is_good}
 use Rattle.askrened.specs.Status.{session_status, check_status}
 
 -- no memory for the journal
@@ -63,3 +74,132 @@ check_is_no_usage Checks.Long = λ same. cc
 pub no_session_ends_well : (told : Option (List ℕ)) (Reads Writes : Type 0) → IfSome told (λ bytes. IsServable bytes → (Reads → ⊥) → (Writes → ⊥) → AskEndsWell NoMemory)
 no_session_ends_well None Reads Writes = tt
 no_session_ends_well (Some bytes) Reads Writes = λ servable reads writes. tt
+
+pub check_loads_nothing : (end : CheckEnd) (local : Bool) (fault : MapFault) → check_status end ≢ MapRefused local fault
+check_loads_nothing Checks.Shown local fault = λ same. cc
+check_loads_nothing (Checks.NotShown line readable) local fault = λ same. cc
+check_loads_nothing Checks.NoMemory local fault = λ same. cc
+check_loads_nothing Checks.ReadFault local fault = λ same. cc
+check_loads_nothing Checks.WriteFault local fault = λ same. cc
+check_loads_nothing Checks.Long local fault = λ same. cc
+
+-- a session that a load comes before
+pub served_is_ask : (status : Status) (span : RunSpan) → IsServed status span → IsAsk status span × (status ≢ Usage)
+served_is_ask Ok span served = (served, λ same. cc)
+served_is_ask ReadFault span served = (served, λ same. cc)
+served_is_ask WriteFault span served = (served, λ same. cc)
+served_is_ask NoMemory span served = (served, λ same. cc)
+served_is_ask SessionFull span served = (served, λ same. cc)
+served_is_ask Long span served = (served, λ same. cc)
+served_is_ask Usage span served = absurd served
+served_is_ask (MapRefused local fault) span served = absurd served
+served_is_ask (CheckNo line readable) span served = absurd served
+
+good_tells : (files : Files) (map local : Option Bytes) (status : Status) (span : RunSpan) → IsServed status span → IsGood map_reading files map → IsGood local_reading files local
+    → TellsFiles files map local status
+good_tells files map local Ok span served one two = (one, two)
+good_tells files map local ReadFault span served one two = tt
+good_tells files map local WriteFault span served one two = (one, two)
+good_tells files map local NoMemory span served one two = tt
+good_tells files map local SessionFull span served one two = (one, two)
+good_tells files map local Long span served one two = (one, two)
+good_tells files map local Usage span served one two = absurd served
+good_tells files map local (MapRefused is_local fault) span served one two = absurd served
+good_tells files map local (CheckNo line readable) span served one two = absurd served
+
+pub served_tells : (files : Files) (map local : Option Bytes) (edges others : List Edge) (status : Status) (span : RunSpan) → IsServed status span
+    → IsLoadedAs map_reading files map edges → IsLoadedAs local_reading files local others → TellsFiles files map local status
+served_tells files map local edges others status span served one two =
+    good_tells files map local status span served (loaded_is_good map_reading files map edges one) (loaded_is_good local_reading files local others two)
+
+pub served_ends_well : (told : Option (List ℕ)) (Opens Reads Writes Well : Type 0) → IfSome told (λ bytes. IsServable bytes → (Reads → ⊥) → (Writes → ⊥) → Well)
+    → IfSome told (λ bytes. IsServable bytes → (Opens → ⊥) → (Reads → ⊥) → (Writes → ⊥) → Well)
+served_ends_well None Opens Reads Writes Well well = tt
+served_ends_well (Some bytes) Opens Reads Writes Well well = λ servable opens reads writes. well servable reads writes
+
+-- a session that a fault of a load keeps from its beginning
+writes_none : (output : Option (List ℕ)) → Appends output output []
+writes_none None = tt
+writes_none (Some bytes) = sym (append-nil bytes)
+
+no_whole_lines : [] ≡ whole_lines []
+unfolding whole_lines
+no_whole_lines = refl
+
+told_unread : (told output clock : Option (List ℕ)) → IsToldSession Answers only_caller Session.ReadFault (record {
+  input = told;
+  rest = told;
+  output = output;
+  written = output;
+  before = record { log = []; clock = clock };
+  after = record { log = []; clock = clock };
+})
+told_unread None output clock = tt
+told_unread (Some input) output clock = record {
+  served = [];
+  replies = [];
+  serves = (refl, refl);
+  short = refl;
+  few = omega arith;
+  which = record { taken = []; consumed = refl; lines = no_whole_lines };
+  how = writes_none output;
+}
+
+pub load_fault_is_ask : (status : Status) (input output clock : Option (List ℕ)) → IsLoadFault status
+    → IsAsk status (record { input = input; rest = input; output = output; written = output; clock = clock; ticked = clock }) × (status ≢ Usage)
+load_fault_is_ask (MapRefused local fault) input output clock is = ((refl, refl, refl), λ same. cc)
+load_fault_is_ask ReadFault input output clock is = (record { log = []; session = told_unread input output clock }, λ same. cc)
+load_fault_is_ask NoMemory input output clock is = (no_session input output clock, λ same. cc)
+load_fault_is_ask Ok input output clock is = absurd is
+load_fault_is_ask Usage input output clock is = absurd is
+load_fault_is_ask WriteFault input output clock is = absurd is
+load_fault_is_ask (CheckNo line readable) input output clock is = absurd is
+load_fault_is_ask SessionFull input output clock is = absurd is
+load_fault_is_ask Long input output clock is = absurd is
+
+-- a file that is known to be good is not refused
+fits_not : (reading : Reading) (fault : MapFault) → IsAccepted reading → IsMapFault fault reading → fault ≢ Fault.NoMemory → ⊥
+fits_not reading Fault.NotJson good fits known = let bad = subst IsAccepted fits good in absurd bad
+fits_not reading Fault.NoChannels good fits known = let bad = subst IsAccepted fits good in absurd bad
+fits_not reading (Fault.Entry index field) good fits known = let bad = subst IsAccepted fits good in absurd bad
+fits_not reading (Fault.Twice dir) good fits known = let bad = subst IsAccepted fits good in absurd bad
+fits_not reading (Fault.TooMany directions nodes) good fits known = let bad = subst IsAccepted fits good in absurd bad
+fits_not reading Fault.Long good fits known = absurd fits
+fits_not reading Fault.NoMemory good fits known = absurd (known refl)
+
+fault_not : (reader : Reader) (bytes : Bytes) (fault : MapFault) → IsGoodFile reader bytes → IsFaultOf reader fault bytes → fault ≢ Fault.NoMemory → ⊥
+fault_not reader bytes Fault.Long good fits known = let few = good.0 in omega (arith, few, fits)
+fault_not reader bytes Fault.NotJson good fits known = fits_not (reader bytes) Fault.NotJson good.1 fits.1 known
+fault_not reader bytes Fault.NoChannels good fits known = fits_not (reader bytes) Fault.NoChannels good.1 fits.1 known
+fault_not reader bytes (Fault.Entry index field) good fits known = fits_not (reader bytes) (Fault.Entry index field) good.1 fits.1 known
+fault_not reader bytes (Fault.Twice dir) good fits known = fits_not (reader bytes) (Fault.Twice dir) good.1 fits.1 known
+fault_not reader bytes (Fault.TooMany directions nodes) good fits known = fits_not (reader bytes) (Fault.TooMany directions nodes) good.1 fits.1 known
+fault_not reader bytes Fault.NoMemory good fits known = absurd (known refl)
+
+known_not : (reader : Reader) (known : Option Bytes) (fault : MapFault) → IsSomeAnd known (IsGoodFile reader) → fault ≢ Fault.NoMemory → IfSome known (IsFaultOf reader fault) → ⊥
+known_not reader None fault good other refused = good
+known_not reader (Some bytes) fault good other refused = fault_not reader bytes fault good refused other
+
+good_is_not_refused : (reader : Reader) (files : Files) (name : Option Bytes) (fault : MapFault) → IsKnownGood reader files name → IsRefusedFor reader files name fault → ⊥
+good_is_not_refused reader files None fault good refused = refused
+good_is_not_refused reader files (Some name) fault good refused = known_not reader (files name) fault good refused.0 refused.1
+
+load_ends_well : (files : Files) (map local : Option Bytes) (status : Status) (Opens : Type 0) → IsLoadFault status → TellsFiles files map local status → (status ≡ ReadFault → Opens)
+    → IsKnownGood map_reading files map → IsKnownGood local_reading files local → (Opens → ⊥) → AskEndsWell status
+load_ends_well files map local (MapRefused false fault) Opens is tells opens one two closed = absurd (good_is_not_refused map_reading files map fault one tells)
+load_ends_well files map local (MapRefused true fault) Opens is tells opens one two closed = absurd (good_is_not_refused local_reading files local fault two tells.1)
+load_ends_well files map local ReadFault Opens is tells opens one two closed = absurd (closed (opens refl))
+load_ends_well files map local NoMemory Opens is tells opens one two closed = tt
+load_ends_well files map local Ok Opens is tells opens one two closed = absurd is
+load_ends_well files map local Usage Opens is tells opens one two closed = absurd is
+load_ends_well files map local WriteFault Opens is tells opens one two closed = absurd is
+load_ends_well files map local (CheckNo line readable) Opens is tells opens one two closed = absurd is
+load_ends_well files map local SessionFull Opens is tells opens one two closed = absurd is
+load_ends_well files map local Long Opens is tells opens one two closed = absurd is
+
+pub load_fault_ends_well : (files : Files) (map local : Option Bytes) (status : Status) (told : Option (List ℕ)) (Opens Reads Writes : Type 0) → IsLoadFault status
+    → TellsFiles files map local status → (status ≡ ReadFault → Opens) → IsKnownGood map_reading files map → IsKnownGood local_reading files local
+    → IfSome told (λ bytes. IsServable bytes → (Opens → ⊥) → (Reads → ⊥) → (Writes → ⊥) → AskEndsWell status)
+load_fault_ends_well files map local status None Opens Reads Writes is tells opens one two = tt
+load_fault_ends_well files map local status (Some bytes) Opens Reads Writes is tells opens one two = λ servable no_open no_read no_write.
+    load_ends_well files map local status Opens is tells opens one two no_open

@@ -1,1 +1,4 @@
-pub mod Ends
+mod Asking
+mod Ends
+mod Loads
+mod Spelled

@@ -1,5 +1,5 @@
--- What a whole run of the program means, by the words of its command line and by its status.
-use Rattle.std.specs.Prelude.{◌≤◌, ℕ, List, [], ◌∷◌, codes, bytes_eq, length, Option, Some, None, if◌then◌else◌, ⊤}
+-- What a whole run of a command means, by its status.
+use Rattle.std.specs.Prelude.{◌≡◌, ◌≤◌, ℕ, List, [], length, Option, ⊤}
 use Rattle.one_history.specs.declared.entry.Entry.{Entry}
 use Rattle.askrene_command.specs.declared.command.Command.{Command}
 use Rattle.port_io.specs.declared.session_end.SessionEnd.{SessionEnd}
@@ -11,16 +11,8 @@ use Rattle.check_command.specs.Check.{IsCheck}
 use Rattle.session.specs.Answers.{Answers}
 use Rattle.session.specs.Caller.{only_caller}
 use Rattle.session.specs.Session.{IsToldSession}
-use Rattle.askrened.specs.declared.run.Task.{Task}
-use Rattle.askrened.specs.declared.run.Task.TheVariants.{Ask, Check}
 use Rattle.askrened.specs.declared.status.Status.{Status}
-use Rattle.askrened.specs.declared.status.Status.TheVariants.{Ok, Usage, ReadFault, WriteFault, NoMemory, CheckNo, SessionFull, Long}
-
--- what the words of a command line ask for: one word that is a command
-abbrev pub task_of : List (List ℕ) → Option Task
-task_of (word ∷ []) =
-    if bytes_eq word (codes "ask") then Some Ask else if bytes_eq word (codes "check") then Some Check else None
-task_of _ = None
+use Rattle.askrened.specs.declared.status.Status.TheVariants.{Ok, Usage, MapRefused, ReadFault, WriteFault, NoMemory, CheckNo, SessionFull, Long}
 
 -- the streams and the clock before a run and after it, as far as they are known
 pub record RunSpan : Type 0 where
@@ -30,6 +22,10 @@ pub record RunSpan : Type 0 where
   pub written : Option (List ℕ)
   pub clock : Option (List ℕ)
   pub ticked : Option (List ℕ)
+
+-- nothing was read, written or asked of the clock
+abbrev pub IsUntouched : RunSpan → Type 0
+IsUntouched span = (span.rest ≡ span.input) × (span.written ≡ span.output) × (span.ticked ≡ span.clock)
 
 -- a session of the only caller, from the empty history on
 pub record IsAsking (end : SessionEnd) (span : RunSpan) : Type 0 where
@@ -43,16 +39,22 @@ pub record IsAsking (end : SessionEnd) (span : RunSpan) : Type 0 where
     after = record { log = log; clock = span.ticked };
   })
 
--- what a status of `ask` says
+-- what a status of a session says
+abbrev pub IsServed : Status → RunSpan → Type 0
+IsServed Ok span = IsAsking Session.Done span
+IsServed ReadFault span = IsAsking Session.ReadFault span
+IsServed WriteFault span = IsAsking Session.WriteFault span
+IsServed NoMemory span = IsAsking Session.NoMemory span
+IsServed SessionFull span = IsAsking Session.Full span
+IsServed Long span = IsAsking Session.Long span
+IsServed Usage span = ⊥
+IsServed (MapRefused local fault) span = ⊥
+IsServed (CheckNo line readable) span = ⊥
+
+-- what a status of `ask` says of the streams and the clock
 abbrev pub IsAsk : Status → RunSpan → Type 0
-IsAsk Ok span = IsAsking Session.Done span
-IsAsk ReadFault span = IsAsking Session.ReadFault span
-IsAsk WriteFault span = IsAsking Session.WriteFault span
-IsAsk NoMemory span = IsAsking Session.NoMemory span
-IsAsk SessionFull span = IsAsking Session.Full span
-IsAsk Long span = IsAsking Session.Long span
-IsAsk Usage span = ⊥
-IsAsk (CheckNo line readable) span = ⊥
+IsAsk (MapRefused local fault) span = IsUntouched span
+IsAsk status span = IsServed status span
 
 abbrev pub IsCheckOf : CheckEnd → RunSpan → Type 0
 IsCheckOf end span = IsCheck end span.input span.rest span.output span.written
@@ -66,6 +68,7 @@ IsChecking ReadFault span = IsCheckOf Checks.ReadFault span
 IsChecking WriteFault span = IsCheckOf Checks.WriteFault span
 IsChecking NoMemory span = IsCheckOf Checks.NoMemory span
 IsChecking Usage span = ⊥
+IsChecking (MapRefused local fault) span = ⊥
 IsChecking SessionFull span = ⊥
 
 -- nothing outside the program kept a session from its end
@@ -73,6 +76,7 @@ abbrev pub AskEndsWell : Status → Type 0
 AskEndsWell Ok = ⊤
 AskEndsWell NoMemory = ⊤
 AskEndsWell Usage = ⊥
+AskEndsWell (MapRefused local fault) = ⊥
 AskEndsWell ReadFault = ⊥
 AskEndsWell WriteFault = ⊥
 AskEndsWell (CheckNo line readable) = ⊥
@@ -85,6 +89,7 @@ CheckEndsWell Ok = ⊤
 CheckEndsWell (CheckNo line readable) = ⊤
 CheckEndsWell NoMemory = ⊤
 CheckEndsWell Usage = ⊥
+CheckEndsWell (MapRefused local fault) = ⊥
 CheckEndsWell ReadFault = ⊥
 CheckEndsWell WriteFault = ⊥
 CheckEndsWell SessionFull = ⊥

@@ -5,11 +5,12 @@ use Rattle.port_io.specs.declared.session_end.SessionEnd.TheVariants as Session
 use Rattle.check_command.specs.declared.end.CheckEnd.{CheckEnd}
 use Rattle.check_command.specs.declared.end.CheckEnd.TheVariants as Check
 use Rattle.askrened.specs.declared.status.Status.{Status}
-use Rattle.askrened.specs.declared.status.Status.TheVariants.{Ok, Usage, ReadFault, WriteFault, NoMemory, CheckNo, SessionFull, Long}
+use Rattle.askrened.specs.declared.status.Status.TheVariants.{Ok, Usage, MapRefused, ReadFault, WriteFault, NoMemory, CheckNo, SessionFull, Long}
 
 abbrev pub code_of : Status → ℕ
 code_of Ok = 0
 code_of Usage = 2
+code_of (MapRefused local fault) = 3
 code_of ReadFault = 4
 code_of WriteFault = 5
 code_of NoMemory = 6

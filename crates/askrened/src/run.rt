@@ -1,10 +1,17 @@
-ghost use Rattle.std.specs.Prelude.{◌≡◌, ◌≢◌, ◌↔◌, ◌∷◌, [], Some, None, IfSome, map, string_bytes, ℕ, List};
+ghost use Rattle.std.specs.Prelude.{◌≡◌, ◌≢◌, ◌⊎◌, [], Some, Bool, IfSome, map, option_map, string_bytes, ℕ, List};
 ghost use Rattle.std.specs.declared.option.Option.{Option};
+ghost use Rattle.channel_map.specs.Reading.{map_reading, local_reading};
+ghost use Rattle.channel_map.specs.declared.fault.MapFault.{MapFault};
 ghost use Rattle.port_io.specs.Faults.{Rose};
 ghost use Rattle.session.specs.Session.{IsServable};
-ghost use Rattle.askrened.specs.Run.{task_of, IsAsk, IsChecking, AskEndsWell, CheckEndsWell, IsCheckable};
+ghost use Rattle.askrened.specs.Form.{Invocation, Bytes, invocation_of, IfAsks, IfChecks, AreRefused};
+ghost use Rattle.askrened.specs.Load.{IsKnownGood, TellsFiles};
+ghost use Rattle.askrened.specs.Run.{IsAsk, IsServed, IsChecking, AskEndsWell, CheckEndsWell, IsCheckable};
+ghost use Rattle.askrened.specs.Words.{IsPlain, spelling_of};
 
+use crate::load::load;
 use crate::status::Status;
+use crate::words::{Task, WordsFault, read_words};
 use askrene_state::State;
 use check_command::check;
 use one_history::Journal;
@@ -12,17 +19,10 @@ use port_io::{Clock, Places, Sink, Source};
 use session::ask_loop;
 use std::alloc::Global;
 
-/// What the program is asked to do.
-#[derive(Clone, Copy, Debug, PartialEq, Eq)]
-pub enum Task {
-    /// To serve the lines of the input.
-    Ask,
-    /// To check a certificate.
-    Check,
-}
-
-/// Runs the command that the words after the program's name ask for. `ask` serves the lines of the input, from an empty
-/// history on; `check` writes one line on the certificate of the input. The files stay as they are.
+/// Runs the command that the words after the program's name ask for. `ask` loads the map and the local file, and serves the
+/// lines of the input, from an empty history on; `check` writes one line on the certificate of the input. The files stay as
+/// they are.
+#[tactic(auto, using(crate::proofs::Asking::refused_asks_none, crate::proofs::Asking::if_asks, crate::proofs::Asking::if_checks, crate::proofs::Asking::asks_checks, crate::proofs::Asking::checks_asks, crate::proofs::Asking::if_asks_all, crate::proofs::Asking::if_checks_all, crate::proofs::Ends::no_session, crate::proofs::Spelled::plain_is_taken))]
 pub fn run<P: Places, I: Source, O: Sink, C: Clock>(
     alloc: Global,
     words: &[String],
@@ -31,9 +31,71 @@ pub fn run<P: Places, I: Source, O: Sink, C: Clock>(
     output: &mut O,
     clock: &mut C,
 ) -> Status
-    ensures usage { (result ≡ Status.Usage) ↔ (task_of (map string_bytes words.now) ≡ None) }
-    ensures usage_leaves { result ≡ Status.Usage → (input.new ≡ input.old) × (output.new ≡ output.old) × (clock.new ≡ clock.old) }
-    ensures session { task_of (map string_bytes words.now) ≡ Some Task.Ask → IsAsk result (record {
+    ensures usage { result ≡ Status.Usage → AreRefused (map string_bytes words.now) }
+    ensures refused { AreRefused (map string_bytes words.now) → (result ≡ Status.Usage) ⊎ (result ≡ Status.NoMemory) }
+    ensures refused_leaves { AreRefused (map string_bytes words.now)
+        → (places.new ≡ places.old) × (input.new ≡ input.old) × (output.new ≡ output.old) × (clock.new ≡ clock.old) }
+    ensures spelled { (wanted : Invocation) → IsPlain wanted → map string_bytes words.now ≡ spelling_of wanted
+        → result ≢ Status.Usage }
+    ensures session { IfAsks (invocation_of (map string_bytes words.now)) (λ map_name local_name. IsAsk result (record {
+      input = I.left input.old;
+      rest = I.left input.new;
+      output = O.written output.old;
+      written = O.written output.new;
+      clock = C.moments clock.old;
+      ticked = C.moments clock.new;
+    })) }
+    ensures loaded { IfAsks (invocation_of (map string_bytes words.now)) (λ map_name local_name.
+        TellsFiles (P.file places.old) map_name local_name result) }
+    ensures map_refused_leaves { (local : Bool) (fault : MapFault) → result ≡ Status.MapRefused local fault
+        → (input.new ≡ input.old) × (output.new ≡ output.old) × (clock.new ≡ clock.old) }
+    ensures complete { IfAsks (invocation_of (map string_bytes words.now)) (λ map_name local_name.
+        IsKnownGood map_reading (P.file places.old) map_name
+        → IsKnownGood local_reading (P.file places.old) local_name
+        → IfSome (I.left input.old) (λ bytes. IsServable bytes
+        → (Rose (P.place_faults places.old) (P.place_faults places.new) → ⊥)
+        → (Rose (I.read_faults input.old) (I.read_faults input.new) → ⊥)
+        → (Rose (O.write_faults output.old) (O.write_faults output.new) → ⊥) → AskEndsWell result)) }
+    ensures check { IfChecks (invocation_of (map string_bytes words.now)) (IsChecking result (record {
+      input = I.left input.old;
+      rest = I.left input.new;
+      output = O.written output.old;
+      written = O.written output.new;
+      clock = C.moments clock.old;
+      ticked = C.moments clock.new;
+    })) }
+    ensures check_complete { IfChecks (invocation_of (map string_bytes words.now))
+        (IfSome (I.left input.old) (λ bytes. IsCheckable bytes
+        → (Rose (I.read_faults input.old) (I.read_faults input.new) → ⊥)
+        → (Rose (O.write_faults output.old) (O.write_faults output.new) → ⊥) → CheckEndsWell result)) }
+    ensures check_leaves { IfChecks (invocation_of (map string_bytes words.now)) ((places.new ≡ places.old) × (clock.new ≡ clock.old)) }
+    ensures read_fault { result ≡ Status.ReadFault → Rose (I.read_faults input.old) (I.read_faults input.new)
+        ⊎ Rose (P.place_faults places.old) (P.place_faults places.new) }
+    ensures write_fault { result ≡ Status.WriteFault
+        → Rose (O.write_faults output.old) (O.write_faults output.new) }
+    ensures files { (name : Bytes) → P.file places.new name ≡ P.file places.old name }
+{
+    match read_words(alloc, words) {
+        Err(WordsFault::Refused) => Status::Usage,
+        Err(WordsFault::NoMemory) => Status::NoMemory,
+        Ok(Task::Ask { map, local }) => ask(alloc, map, local, places, input, output, clock),
+        Ok(Task::Check) => check_input(alloc, input, output),
+    }
+}
+
+// Loads the files, and then serves the lines of the input.
+#[tactic(auto, using(crate::proofs::Ends::load_fault_is_ask, crate::proofs::Ends::load_fault_ends_well, crate::proofs::Ends::served_is_ask, crate::proofs::Ends::served_tells, crate::proofs::Ends::served_ends_well))]
+fn ask<P: Places, I: Source, O: Sink, C: Clock>(
+    alloc: Global,
+    map: Option<&str>,
+    local: Option<&str>,
+    places: &mut P,
+    input: &mut I,
+    output: &mut O,
+    clock: &mut C,
+) -> Status
+    ensures other { result ≢ Status.Usage }
+    ensures session { IsAsk result (record {
       input = I.left input.old;
       rest = I.left input.new;
       output = O.written output.old;
@@ -41,60 +103,37 @@ pub fn run<P: Places, I: Source, O: Sink, C: Clock>(
       clock = C.moments clock.old;
       ticked = C.moments clock.new;
     }) }
-    ensures complete { task_of (map string_bytes words.now) ≡ Some Task.Ask → IfSome (I.left input.old) (λ bytes. IsServable bytes
+    ensures loaded { TellsFiles (P.file places.old)
+        (option_map (λ name. name.now) map.entry) (option_map (λ name. name.now) local.entry) result }
+    ensures map_refused_leaves { (local : Bool) (fault : MapFault) → result ≡ Status.MapRefused local fault
+        → (input.new ≡ input.old) × (output.new ≡ output.old) × (clock.new ≡ clock.old) }
+    ensures complete { IsKnownGood map_reading (P.file places.old) (option_map (λ name. name.now) map.entry)
+        → IsKnownGood local_reading (P.file places.old) (option_map (λ name. name.now) local.entry)
+        → IfSome (I.left input.old) (λ bytes. IsServable bytes
+        → (Rose (P.place_faults places.old) (P.place_faults places.new) → ⊥)
         → (Rose (I.read_faults input.old) (I.read_faults input.new) → ⊥)
         → (Rose (O.write_faults output.old) (O.write_faults output.new) → ⊥) → AskEndsWell result) }
-    ensures check { task_of (map string_bytes words.now) ≡ Some Task.Check → IsChecking result (record {
-      input = I.left input.old;
-      rest = I.left input.new;
-      output = O.written output.old;
-      written = O.written output.new;
-      clock = C.moments clock.old;
-      ticked = C.moments clock.new;
-    }) }
-    ensures check_complete { task_of (map string_bytes words.now) ≡ Some Task.Check → IfSome (I.left input.old) (λ bytes. IsCheckable bytes
-        → (Rose (I.read_faults input.old) (I.read_faults input.new) → ⊥)
-        → (Rose (O.write_faults output.old) (O.write_faults output.new) → ⊥) → CheckEndsWell result) }
-    ensures check_leaves { task_of (map string_bytes words.now) ≡ Some Task.Check → clock.new ≡ clock.old }
-    ensures read_fault { result ≡ Status.ReadFault → Rose (I.read_faults input.old) (I.read_faults input.new) }
+    ensures read_fault { result ≡ Status.ReadFault → Rose (I.read_faults input.old) (I.read_faults input.new)
+        ⊎ Rose (P.place_faults places.old) (P.place_faults places.new) }
     ensures write_fault { result ≡ Status.WriteFault → Rose (O.write_faults output.old) (O.write_faults output.new) }
-    ensures files { places.new ≡ places.old }
+    ensures files { (name : Bytes) → P.file places.new name ≡ P.file places.old name }
 {
-    match find_task(words) {
-        None => Status::Usage,
-        Some(Task::Ask) => ask(alloc, input, output, clock),
-        Some(Task::Check) => check_input(alloc, input, output),
-    }
-}
-
-fn find_task(words: &[String]) -> Option<Task>
-    ensures { result ≡ task_of (map string_bytes words.now) }
-{
-    match words {
-        [word] => one_task(word.as_str()),
-        _ => None,
-    }
-}
-
-fn one_task(word: &str) -> Option<Task>
-    ensures { result ≡ task_of (word.now ∷ []) }
-{
-    match word {
-        "ask" => Some(Task::Ask),
-        "check" => Some(Task::Check),
-        _ => None,
+    // No method reads the map or the local file yet.
+    match load(alloc, places, map, local) {
+        Ok((_map, _local)) => serve(alloc, input, output, clock),
+        Err(status) => status,
     }
 }
 
 // Serves the lines of the input, from an empty history on.
 #[tactic(auto, using(crate::proofs::Ends::no_session, crate::proofs::Ends::no_session_ends_well))]
-fn ask<I: Source, O: Sink, C: Clock>(
+fn serve<I: Source, O: Sink, C: Clock>(
     alloc: Global,
     input: &mut I,
     output: &mut O,
     clock: &mut C,
 ) -> Status
-    ensures session { IsAsk result (record {
+    ensures session { IsServed result (record {
       input = I.left input.old;
       rest = I.left input.new;
       output = O.written output.old;
@@ -111,12 +150,12 @@ fn ask<I: Source, O: Sink, C: Clock>(
     let Ok(mut journal) = Journal::<State>::open(alloc) else {
         return Status::NoMemory;
     };
-    ask_over(alloc, &mut journal, input, output, clock)
+    serve_over(alloc, &mut journal, input, output, clock)
 }
 
 // Serves the lines of the input over an empty journal.
 #[tactic(auto, using(crate::proofs::Ends::ask_ends_well))]
-fn ask_over<I: Source, O: Sink, C: Clock>(
+fn serve_over<I: Source, O: Sink, C: Clock>(
     alloc: Global,
     journal: &mut Journal<State>,
     input: &mut I,
@@ -124,7 +163,7 @@ fn ask_over<I: Source, O: Sink, C: Clock>(
     clock: &mut C,
 ) -> Status
     requires { journal.old ≡ [] }
-    ensures session { IsAsk result (record {
+    ensures session { IsServed result (record {
       input = I.left input.old;
       rest = I.left input.new;
       output = O.written output.old;
@@ -142,9 +181,10 @@ fn ask_over<I: Source, O: Sink, C: Clock>(
 }
 
 // Checks the certificate of the input.
-#[tactic(auto, using(crate::proofs::Ends::check_ends_well, crate::proofs::Ends::check_is_no_usage))]
+#[tactic(auto, using(crate::proofs::Ends::check_ends_well, crate::proofs::Ends::check_is_no_usage, crate::proofs::Ends::check_loads_nothing))]
 fn check_input<I: Source, O: Sink>(alloc: Global, input: &mut I, output: &mut O) -> Status
     ensures other { result ≢ Status.Usage }
+    ensures not_refused { (local : Bool) (fault : MapFault) → result ≢ Status.MapRefused local fault }
     ensures check { (clock ticked : Option (List ℕ)) → IsChecking result (record {
       input = I.left input.old;
       rest = I.left input.new;

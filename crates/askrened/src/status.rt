@@ -1,6 +1,7 @@
 ghost use Rattle.std.specs.Prelude.{◌≡◌};
 ghost use Rattle.askrened.specs.Status.{code_of};
 
+use channel_map::MapFault;
 use check_command::CheckEnd;
 use port_io::SessionEnd;
 use std::alloc::AllocError;
@@ -12,7 +13,9 @@ pub enum Status {
     Ok,
     /// The words of the command line are no command.
     Usage,
-    /// A read of the input failed.
+    /// A file that was read is refused: the local file, or else the map.
+    MapRefused { local: bool, fault: MapFault },
+    /// A read of the input or of a file failed.
     ReadFault,
     /// A write of the output failed.
     WriteFault,
@@ -34,6 +37,7 @@ impl Status {
         match self {
             Status::Ok => 0,
             Status::Usage => 2,
+            Status::MapRefused { .. } => 3,
             Status::ReadFault => 4,
             Status::WriteFault => 5,
             Status::NoMemory => 6,

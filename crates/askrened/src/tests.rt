@@ -1,5 +1,7 @@
 use crate::run::run;
 use crate::status::Status;
+use channel_map::MapFault;
+use plan_base::Dir;
 use port_io::{MemClock, MemPlaces, MemSink, MemSource};
 use std::alloc::Global;
 use std::test::Fail;
@@ -15,28 +17,37 @@ struct Outcome {
 /// 130.
 fn go(
     alloc: Global,
+    words: &[&str],
+    places: &mut MemPlaces,
+    input: &[u8],
+    piece: usize,
+    reads: &[u64],
+    writes: &[u64],
+) -> Result<Outcome, Fail> {
+    let mut texts = Vec::new(alloc);
+    for word in words {
+        texts.push(word.to_string(alloc)?)?;
+    }
+    let piece = piece.max(1);
+    let mut source = MemSource::new(input.to_vec(alloc)?, piece, reads.to_vec(alloc)?);
+    let mut sink = MemSink::new(alloc, piece, writes.to_vec(alloc)?);
+    sink.reserve(65_536)?;
+    let mut clock = MemClock::new(vec![in alloc; 100, 130]?);
+    let status = run(alloc, &texts, places, &mut source, &mut sink, &mut clock);
+    Ok(Outcome { status, sink })
+}
+
+/// Runs a command without files.
+fn go_alone(
+    alloc: Global,
     word: &str,
     input: &[u8],
     piece: usize,
     reads: &[u64],
     writes: &[u64],
 ) -> Result<Outcome, Fail> {
-    let words = vec![in alloc; word.to_string(alloc)?]?;
     let mut places = MemPlaces::new(Vec::new(alloc), Vec::new(alloc));
-    let piece = piece.max(1);
-    let mut source = MemSource::new(input.to_vec(alloc)?, piece, reads.to_vec(alloc)?);
-    let mut sink = MemSink::new(alloc, piece, writes.to_vec(alloc)?);
-    sink.reserve(65_536)?;
-    let mut clock = MemClock::new(vec![in alloc; 100, 130]?);
-    let status = run(
-        alloc,
-        &words,
-        &mut places,
-        &mut source,
-        &mut sink,
-        &mut clock,
-    );
-    Ok(Outcome { status, sink })
+    go(alloc, &[word], &mut places, input, piece, reads, writes)
 }
 
 /// Runs `ask` on an input.
@@ -47,7 +58,7 @@ fn ask(
     reads: &[u64],
     writes: &[u64],
 ) -> Result<Outcome, Fail> {
-    go(alloc, "ask", input, piece, reads, writes)
+    go_alone(alloc, "ask", input, piece, reads, writes)
 }
 
 const FIRST: &str = "{\"id\":1,\"method\":\"askrene-create-layer\",\"params\":{\"layer\":\"x\"}}\n";
@@ -127,7 +138,7 @@ fn is_checked(
     status: Status,
     output: &str,
 ) -> Result<bool, Fail> {
-    let outcome = go(alloc, "check", input.as_bytes(), 32, reads, writes)?;
+    let outcome = go_alone(alloc, "check", input.as_bytes(), 32, reads, writes)?;
     Ok(outcome.status == status && outcome.sink.bytes() == output.as_bytes())
 }
 
@@ -193,27 +204,87 @@ fn there_may_be_too_many_lines(rt: HostRuntime) -> Result<(), Fail> {
     Ok(())
 }
 
-#[test]
-fn other_words_are_no_command(rt: HostRuntime) -> Result<(), Fail> {
-    let alloc = rt.alloc();
-    let mut places = MemPlaces::new(Vec::new(alloc), Vec::new(alloc));
-    let mut source = MemSource::new(FIRST.as_bytes().to_vec(alloc)?, 64, Vec::new(alloc));
-    let mut sink = MemSink::new(alloc, 64, Vec::new(alloc));
-    let mut clock = MemClock::new(Vec::new(alloc));
-    let twice = vec![in alloc; "ask".to_string(alloc)?, "ask".to_string(alloc)?]?;
-    let other = vec![in alloc; "Ask".to_string(alloc)?]?;
-    for words in [Vec::new(alloc), twice, other] {
-        let status = run(
-            alloc,
-            &words,
-            &mut places,
-            &mut source,
-            &mut sink,
-            &mut clock,
-        );
-        assert_eq!(rt; status, Status::Usage);
-        assert_eq!(rt; status.code(), 2);
-        assert!(rt; sink.bytes().is_empty());
+const GOOD_MAP: &str =
+    "{\"channels\":[{\"source\":\"02aaaaaaaaaaaaaaaaaaaaaaaaaaaaaaaaaaaaaaaaaaaaaaaaaaaaaaaaaaaaaaaa\",\"destination\":\"02bbbbbbbbbbbbbbbbbbbbbbbbbbbbbbbbbbbbbbbbbbbbbbbbbbbbbbbbbbbbbbbb\",\"short_channel_id\":\"100x1x0\",\"direction\":0,\"amount_msat\":1000,\"active\":true,\"base_fee_millisatoshi\":0,\"fee_per_millionth\":0,\"delay\":6,\"htlc_minimum_msat\":0}]}";
+
+const TWICE_MAP: &str =
+    "{\"channels\":[{\"source\":\"02aaaaaaaaaaaaaaaaaaaaaaaaaaaaaaaaaaaaaaaaaaaaaaaaaaaaaaaaaaaaaaaa\",\"destination\":\"02bbbbbbbbbbbbbbbbbbbbbbbbbbbbbbbbbbbbbbbbbbbbbbbbbbbbbbbbbbbbbbbb\",\"short_channel_id\":\"100x1x0\",\"direction\":0,\"amount_msat\":1000,\"active\":true,\"base_fee_millisatoshi\":0,\"fee_per_millionth\":0,\"delay\":6,\"htlc_minimum_msat\":0},{\"source\":\"02aaaaaaaaaaaaaaaaaaaaaaaaaaaaaaaaaaaaaaaaaaaaaaaaaaaaaaaaaaaaaaaa\",\"destination\":\"02bbbbbbbbbbbbbbbbbbbbbbbbbbbbbbbbbbbbbbbbbbbbbbbbbbbbbbbbbbbbbbbb\",\"short_channel_id\":\"100x1x0\",\"direction\":0,\"amount_msat\":1000,\"active\":true,\"base_fee_millisatoshi\":0,\"fee_per_millionth\":0,\"delay\":6,\"htlc_minimum_msat\":0}]}";
+
+/// Words, and the status that they end with on an empty input.
+const WORDS: &[(&[&str], u8)] = &[
+    (&["ask"], 0),
+    (&["ask", "--map", "good"], 0),
+    (&["ask", "--map=good", "--local", "good"], 0),
+    (&["ask", "--local=good", "--map", "good"], 0),
+    (&[], 2),
+    (&["Ask"], 2),
+    (&["ask", "ask"], 2),
+    (&["ask", "good"], 2),
+    (&["ask", "--map"], 2),
+    (&["ask", "--map", "good", "--map=good"], 2),
+    (&["ask", "--layers", "good"], 2),
+    (&["ask", "--help"], 2),
+    (&["check", "--map", "good"], 2),
+    (&["--map", "good", "ask"], 2),
+    (&["--help"], 2),
+    (&["-h"], 2),
+    (&["help"], 2),
+    (&["--version"], 2),
+    (&["serve"], 2),
+    (&["ask", "--map", "twice"], 3),
+    (&["ask", "--local", "bad"], 3),
+    (&["ask", "--map", "good", "--local", "twice"], 3),
+    (&["ask", "--map", "bad", "--local", "missing"], 3),
+    (&["ask", "--map", "missing"], 4),
+    (&["ask", "--map", "good", "--local=missing"], 4),
+    (&["ask", "--map", ""], 4),
+    (&["ask", "--map="], 4),
+    (&["check"], 7),
+];
+
+fn places(alloc: Global, fails: &[u64]) -> Result<MemPlaces, Fail> {
+    let mut files = Vec::new(alloc);
+    for (name, text) in [("good", GOOD_MAP), ("twice", TWICE_MAP), ("bad", "?")] {
+        files.push((name.to_string(alloc)?, text.as_bytes().to_vec(alloc)?))?;
     }
+    Ok(MemPlaces::new(files, fails.to_vec(alloc)?))
+}
+
+#[test]
+fn words_have_their_status(rt: HostRuntime) -> Result<(), Fail> {
+    let alloc = rt.alloc();
+    for (words, code) in WORDS {
+        let outcome = go(alloc, words, &mut places(alloc, &[])?, &[], 64, &[], &[])?;
+        assert_eq!(rt; outcome.status.code(), *code);
+    }
+    Ok(())
+}
+
+/// Words, the calls of reading that fail, and the status; nothing is written.
+fn is_refused(alloc: Global, words: &[&str], fails: &[u64], status: Status) -> Result<bool, Fail> {
+    let mut places = places(alloc, fails)?;
+    let outcome = go(alloc, words, &mut places, FIRST.as_bytes(), 64, &[], &[])?;
+    Ok(outcome.status == status && outcome.sink.bytes().is_empty())
+}
+
+#[test]
+fn files_that_are_refused_end_the_run_at_once(rt: HostRuntime) -> Result<(), Fail> {
+    let alloc = rt.alloc();
+    let Ok(dir) = Dir::read("100x1x0/0") else {
+        panic!(rt; "a direction is refused")
+    };
+    let twice = Status::MapRefused {
+        local: false,
+        fault: MapFault::Twice { dir },
+    };
+    assert!(rt; is_refused(alloc, &["ask", "--map", "twice"], &[], twice)?);
+    let bad = Status::MapRefused {
+        local: true,
+        fault: MapFault::NotJson,
+    };
+    let both = &["ask", "--map", "good", "--local", "bad"];
+    assert!(rt; is_refused(alloc, both, &[], bad)?);
+    assert!(rt; is_refused(alloc, both, &[1], Status::ReadFault)?);
+    assert!(rt; is_refused(alloc, &["ask", "--map", "missing"], &[], Status::ReadFault)?);
     Ok(())
 }

@@ -1,0 +1,64 @@
+//! The texts of the help and of the version.
+
+const VERSION: &str = "askrened 0.1
+";
+
+const HELP: &str = "askrened: a route service for Lightning payers
+
+askrened ask [--map FILE] [--local FILE]    serves the request lines of standard input
+askrened check                              checks the certificate on standard input
+askrened COMMAND --help                     tells more of a command
+askrened --version                          tells the version
+
+Exit statuses: 0 all was read and answered, 2 the words are no command, 3 a file is refused, 4 a read failed, 5 a write
+failed, 6 out of memory, 7 the certificate does not show what it claims, 8 too many lines, 9 too long.
+";
+
+const ASK_HELP: &str = "askrened ask [--map FILE] [--local FILE]
+
+Serves the request lines of standard input, and writes one reply line for each command.
+
+--map FILE      the channels of the network, in the form of Core Lightning's listchannels
+--local FILE    the channels of the node itself, in the same form
+
+Each option may be given once, in any order, and also as --map=FILE. A line has at most 1,048,576 bytes, and a session at
+most 1,000,000 lines. A file has at most 268,435,456 bytes; a map lists at most 262,144 directions between 65,536 nodes,
+and a local file at most 4,096 directions.
+
+Exit statuses: 0 all lines were answered, 2 the words are no command, 3 a file is refused, 4 a read failed, 5 a write
+failed, 6 out of memory, 8 too many lines, 9 a line is too long.
+";
+
+const CHECK_HELP: &str = "askrened check
+
+Reads a certificate of at most 134,217,728 bytes from standard input, and writes one line: cheapest, no-flow, no LINE or
+unreadable LINE.
+
+Exit statuses: 0 the certificate shows what it claims, 2 the words are no command, 4 a read failed, 5 the write failed,
+6 out of memory, 7 the certificate does not show what it claims, 9 too long.
+";
+
+/// The text that these words alone ask for, if they ask for help or for the version.
+pub fn help_for(words: &[String]) -> Option<&'static str> {
+    match words {
+        [word] => general_help(word.as_str()),
+        [command, word] if word.as_str() == "--help" => command_help(command.as_str()),
+        _ => None,
+    }
+}
+
+fn general_help(word: &str) -> Option<&'static str> {
+    match word {
+        "--help" => Some(HELP),
+        "--version" => Some(VERSION),
+        _ => None,
+    }
+}
+
+fn command_help(command: &str) -> Option<&'static str> {
+    match command {
+        "ask" => Some(ASK_HELP),
+        "check" => Some(CHECK_HELP),
+        _ => None,
+    }
+}
