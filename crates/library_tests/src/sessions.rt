@@ -1,8 +1,10 @@
 use askrene_state::{Command, State};
+use channel_map::{ChannelMap, Local};
+use flow_solver::Keeping;
 use one_history::{JOURNAL_MAX, Journal, Machine};
 use port_io::{MemClock, MemSink, MemSource, SessionEnd};
 use rpc_lines::{Id, Reply, write_reply};
-use session::{answer_of, ask_loop};
+use session::{RouteAnswers, answer_of, ask_loop};
 use std::alloc::Global;
 use std::test::Fail;
 
@@ -25,7 +27,17 @@ fn writes(alloc: Global, journal: &mut Journal<State>, output: &str) -> Result<b
     let mut sink = MemSink::new(alloc, 16, Vec::new(alloc));
     sink.reserve(1_024)?;
     let mut clock = MemClock::new(Vec::new(alloc));
-    let end = ask_loop(alloc, journal, &mut source, &mut sink, &mut clock);
+    let (map, local) = (ChannelMap::empty(alloc), Local::empty(alloc));
+    let end = ask_loop(
+        alloc,
+        journal,
+        &map,
+        &local,
+        &mut source,
+        &mut sink,
+        &mut clock,
+        &Keeping,
+    );
     Ok(end == SessionEnd::Done && sink.bytes() == output.as_bytes())
 }
 
@@ -54,7 +66,12 @@ fn is_answered(
     caller: u32,
     line: &str,
 ) -> Result<bool, Fail> {
-    let Some(body) = answer_of(alloc, machine, caller)? else {
+    let answers = RouteAnswers {
+        map: &ChannelMap::empty(alloc),
+        local: &Local::empty(alloc),
+        solver: &Keeping,
+    };
+    let Some(body) = answer_of(alloc, &answers, machine, caller)? else {
         return Ok(false);
     };
     let id = Id::Unsigned(7);

@@ -21,6 +21,14 @@ impl Printed for bool {
     }
 }
 
+impl Printed for u8 {
+    ghost prints = { whole };
+
+    fn value(&self, _alloc: Global) -> Result<Value, NoMemory> {
+        Ok(Value::from(*self))
+    }
+}
+
 impl Printed for u16 {
     ghost prints = { whole };
 

@@ -5,3 +5,4 @@ pub mod Going
 pub mod Replies
 pub mod Walks
 pub mod Positions
+pub mod Answered

@@ -10,20 +10,20 @@ use Rattle.askrene_state.specs.Step.{no_service, next_of, reply_of}
 use Rattle.askrene_command.specs.declared.command.Command.{Command}
 use Rattle.askrene_command.specs.declared.reply.EventReply.{EventReply}
 use Rattle.rpc_lines.specs.Reply.{Content}
-use Rattle.session.specs.Answers.{Answers, AnswersTold, AnswersAt, reply_after}
+use Rattle.session.specs.Answers.{AnswersTold, AnswersAt, reply_after}
 
-entry_answered : (history : List (Entry Command)) (told : Told EventReply) (content : Content) (found : Option (Entry Command)) → slice_get history told.at ≡ found
-    → reply_at next_of no_service reply_of history told.at ≡ Some told.reply → AnswersTold Answers told content
-    → IfSome found (λ entry. Answers (take told.at history) entry content)
+entry_answered : (answers : List (Entry Command) → Entry Command → Content → Type 0) (history : List (Entry Command)) (told : Told EventReply) (content : Content) (found : Option (Entry Command)) → slice_get history told.at ≡ found
+    → reply_at next_of no_service reply_of history told.at ≡ Some told.reply → AnswersTold answers told content
+    → IfSome found (λ entry. answers (take told.at history) entry content)
 unfolding reply_at
-entry_answered history told content None is reply all = tt
-entry_answered history told content (Some entry) is reply all =
+entry_answered answers history told content None is reply all = tt
+entry_answered answers history told content (Some entry) is reply all =
     let within : told.at < length history = slice_get_within history told.at entry is in
     let replied : Some (reply_after (take told.at history) entry) ≡ Some told.reply = rw is at reply in
     let same : told.reply ≡ reply_after (take told.at history) entry = cc in
     all (take told.at history) entry (record { at = sym (length-take-le told.at history (omega (arith, within))); reply = same })
 
-pub answered_at : (place : Option ℕ) (history : List (Entry Command)) (told : Told EventReply) (content : Content) → place ≡ Some told.at
-    → reply_at next_of no_service reply_of history told.at ≡ Some told.reply → AnswersTold Answers told content
-    → IsSomeAnd place (λ at. AnswersAt history at content)
-answered_at place history told content is reply all = rw is (entry_answered history told content (slice_get history told.at) refl reply all)
+pub answered_at : (answers : List (Entry Command) → Entry Command → Content → Type 0) (place : Option ℕ) (history : List (Entry Command)) (told : Told EventReply) (content : Content) → place ≡ Some told.at
+    → reply_at next_of no_service reply_of history told.at ≡ Some told.reply → AnswersTold answers told content
+    → IsSomeAnd place (λ at. AnswersAt answers history at content)
+answered_at answers place history told content is reply all = rw is (entry_answered answers history told content (slice_get history told.at) refl reply all)

@@ -1,13 +1,11 @@
 -- What a line of the input means: nothing, an error without an entry, or a command.
-use Rattle.std.specs.Prelude.{ℕ, ◌==◌, ◌||◌, List, Bool, Result, Ok, Err, Option, Some, None, bytes_eq, if◌then◌else◌}
-use Rattle.serde_json.specs.Data.{Data}
+use Rattle.std.specs.Prelude.{ℕ, ◌==◌, ◌||◌, List, Bool, Result, Ok, Err, Option, Some, None, if◌then◌else◌}
 use Rattle.std.specs.List.{list_all}
 use Rattle.rpc_lines.specs.declared.request.Id.{Id}
 use Rattle.rpc_lines.specs.declared.request.Id.TheVariants.{Null}
 use Rattle.rpc_lines.specs.Reply.{Content}
 use Rattle.rpc_lines.specs.Request.{LineReading, request, not_json, not_request, request_of}
 use Rattle.askrene_command.specs.declared.command.Command.{Command}
-use Rattle.params.specs.declared.names.TheConstants as names
 use Rattle.params.specs.Methods.{command_in}
 use Rattle.plan_answer.specs.Errors.{parse_error, invalid_request, method_not_found, invalid_params}
 
@@ -32,14 +30,10 @@ meaning_of_method id method None = wrong id (method_not_found method)
 meaning_of_method id method (Some (Err name)) = wrong id (invalid_params name)
 meaning_of_method id method (Some (Ok asked)) = command id asked
 
--- the method that asks for routes is not served yet
-abbrev pub served_command : List ℕ → Data → Option (Result Command (List ℕ))
-served_command method params = if bytes_eq method names.GET_ROUTES.now then None else command_in method params
-
 abbrev pub meaning_of_reading : LineReading → LineMeaning
 meaning_of_reading not_json = wrong Null parse_error
 meaning_of_reading (not_request id) = wrong id invalid_request
-meaning_of_reading (request id method params) = meaning_of_method id method (served_command method params)
+meaning_of_reading (request id method params) = meaning_of_method id method (command_in method params)
 
 unfoldable pub meaning_of : List ℕ → LineMeaning
 meaning_of line = if is_blank line then blank else meaning_of_reading (request_of line)

@@ -5,25 +5,30 @@ ghost use Rattle.session.specs.Caller.{only_caller};
 ghost use Rattle.session.specs.Session.{IsToldSession, IsServable, EndsWell};
 ghost use Rattle.session.specs.declared.limits.TheConstants.{LINES_MAX};
 
-use crate::answerer::EventAnswers;
+use crate::answerer::RouteAnswers;
 use crate::lines::serve_lines;
 use crate::wire::Pair;
 use askrene_state::State;
+use channel_map::{ChannelMap, Local};
+use flow_model::Solve;
 use one_history::Journal;
 use port_io::{Clock, SessionEnd, Sink, Source};
 use std::alloc::Global;
 
 /// Serves the lines of an input, at most 1,000,000, each reply written whole before the next line is read. Commits as caller
-/// 0 and waits for nobody. A fault of the input or the output, a line that is too long, and one line more end the session.
+/// 0 and waits for nobody. Routes are computed over the map and the local file, with the solver. A fault of the input or the output, a line that is too long, and one line more end the session.
 #[tactic(auto, using(crate::proofs::Complete::ends_well))]
-pub fn ask_loop<I: Source, O: Sink, C: Clock>(
+pub fn ask_loop<I: Source, O: Sink, C: Clock, S: Solve>(
     alloc: Global,
     journal: &mut Journal<State>,
+    map: &ChannelMap,
+    local: &Local,
     input: &mut I,
     output: &mut O,
     clock: &mut C,
+    solver: &S,
 ) -> SessionEnd
-    ensures session { IsToldSession Answers only_caller result (record {
+    ensures session { IsToldSession (Answers map.now local.now) only_caller result (record {
       input = I.left input.old;
       rest = I.left input.new;
       output = O.written output.old;
@@ -38,18 +43,21 @@ pub fn ask_loop<I: Source, O: Sink, C: Clock>(
         → (Rose (I.read_faults input.old) (I.read_faults input.new) → ⊥)
         → (Rose (O.write_faults output.old) (O.write_faults output.new) → ⊥) → EndsWell result) }
 {
-    serve_streams(alloc, journal, input, output, clock)
+    serve_streams(alloc, journal, map, local, input, output, clock, solver)
 }
 
 // The session without its completeness.
-fn serve_streams<I: Source, O: Sink, C: Clock>(
+fn serve_streams<I: Source, O: Sink, C: Clock, S: Solve>(
     alloc: Global,
     journal: &mut Journal<State>,
+    map: &ChannelMap,
+    local: &Local,
     input: &mut I,
     output: &mut O,
     clock: &mut C,
+    solver: &S,
 ) -> SessionEnd
-    ensures session { IsToldSession Answers only_caller result (record {
+    ensures session { IsToldSession (Answers map.now local.now) only_caller result (record {
       input = I.left input.old;
       rest = I.left input.new;
       output = O.written output.old;
@@ -61,5 +69,6 @@ fn serve_streams<I: Source, O: Sink, C: Clock>(
     ensures write_fault { result ≡ SessionEnd.WriteFault → Rose (O.write_faults output.old) (O.write_faults output.new) }
 {
     let mut wire = Pair { input, output };
-    serve_lines(alloc, journal, &EventAnswers, &mut wire, clock)
+    let answerer = RouteAnswers { map, local, solver };
+    serve_lines(alloc, journal, &answerer, &mut wire, clock)
 }

@@ -13,7 +13,7 @@ mod turn;
 mod wire;
 
 pub use alone::ask_loop;
-pub use answerer::{Answerer, EventAnswers};
+pub use answerer::{Answerer, RouteAnswers};
 pub use caller::Caller;
 pub use limits::LINES_MAX;
 pub use lines::serve_lines;

@@ -1,12 +1,12 @@
-ghost use Rattle.std.specs.Prelude.{◌≡◌, bytes_eq};
+ghost use Rattle.std.specs.Prelude.{◌≡◌};
 ghost use Rattle.serde_json.specs.View.{view};
 ghost use Rattle.rpc_lines.specs.Request.{request_of};
-ghost use Rattle.params.specs.declared.names.TheConstants as names;
-ghost use Rattle.session.specs.Line.{is_blank_byte, is_blank, meaning_of, meaning_of_reading, meaning_of_method, served_command};
+ghost use Rattle.params.specs.Methods.{command_in};
+ghost use Rattle.session.specs.Line.{is_blank_byte, is_blank, meaning_of, meaning_of_reading, meaning_of_method};
 ghost use Rattle.session.specs.Text.{IsReadAs, IsWrongRead};
 
 use askrene_state::Command;
-use params::{CommandFault, GET_ROUTES, command_of};
+use params::{CommandFault, command_of};
 use plan_answer::{invalid_params, invalid_request, method_not_found, parse_error};
 use plan_base::NoMemory;
 use rpc_lines::{Body, Id, Request, RpcFault, read_request};
@@ -64,11 +64,8 @@ fn read_request_line(alloc: Global, line: &[u8]) -> LineRead
 
 // Reads the command of a request.
 fn read_command(alloc: Global, request: Request) -> LineRead
-    ensures { IsReadAs result (meaning_of_method request.id request.method (served_command request.method (view request.params))) }
+    ensures { IsReadAs result (meaning_of_method request.id request.method (command_in request.method (view request.params))) }
 {
-    if is_get_routes(request.method.as_str()) {
-        return wrong(request.id, method_not_found(alloc, request.method.as_str()));
-    }
     let read = command_of(alloc, &request);
     let Request { id, method, .. } = request;
     match read {
@@ -77,13 +74,6 @@ fn read_command(alloc: Global, request: Request) -> LineRead
         Err(CommandFault::Param { name }) => wrong(id, invalid_params(alloc, name.as_str())),
         Err(CommandFault::NoMemory) => LineRead::OutOfMemory { id },
     }
-}
-
-// Whether the method asks for routes, which are not served yet.
-fn is_get_routes(method: &str) -> bool
-    ensures { result ≡ bytes_eq method.now names.GET_ROUTES.now }
-{
-    method == GET_ROUTES
 }
 
 fn wrong(id: Id, body: Result<Body, NoMemory>) -> LineRead
