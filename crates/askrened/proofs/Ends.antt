@@ -1,5 +1,5 @@
 -- When a run ends well, and a session that could not begin.
-use Rattle.std.proofs.Common.{◌≡◌, ◌≢◌, ◌≤◌, ℕ, List, [], length, Some, None, Option, Bool, true, false, refl, sym, subst, arith}
+use Rattle.std.proofs.Common.{◌≡◌, ◌≢◌, ◌≤◌, ℕ, List, [], length, Some, None, Option, Bool, true, false, refl, subst, inl, inr, arith}
 use Rattle.std.specs.Prelude.{IfSome, IsSomeAnd}
 use Rattle.port_io.specs.declared.session_end.SessionEnd.{SessionEnd}
 use Rattle.port_io.specs.declared.session_end.SessionEnd.TheVariants as Session
@@ -9,10 +9,7 @@ use Rattle.check_command.specs.declared.command.TheConstants.{TEXT_MAX}
 use Rattle.session.specs.Answers.{Answers}
 use Rattle.session.specs.Caller.{only_caller}
 use Rattle.session.specs.Outcome.{SessionState}
-use Rattle.session.specs.Session.{IsServable, IsToldSession, EndsWell}
-use Rattle.std.specs.Io.KnownBytes.{Appends}
-use Rattle.line_cut.specs.WholeLines.{whole_lines}
-use Rattle.std.proofs.lemmas.List.{append-nil}
+use Rattle.session.specs.Session.{IsServable, EndsWell}
 use Rattle.channel_map.specs.declared.edge.Edge.{Edge}
 use Rattle.session.proofs.Going.{told_none}
 use Rattle.askrened.specs.declared.status.Status.{Status}
@@ -22,15 +19,21 @@ use Rattle.channel_map.specs.declared.fault.MapFault.TheVariants as Fault
 use Rattle.channel_map.specs.Reading.{Reading, map_reading, local_reading, IsMapFault}
 use Rattle.askrened.specs.Form.{Bytes}
 use Rattle.askrened.specs.Load.{Files, Reader, IsAccepted, IsGood, IsGoodFile, IsKnownGood, IsLoadedAs, IsFaultOf, IsRefusedFor, IsLoadFault, TellsFiles}
-use Rattle.askrened.specs.Run.{RunSpan, IsAsking, IsServed, IsAsk, AskEndsWell, CheckEndsWell, IsCheckable}
+use Rattle.askrened.specs.Run.{RunSpan, IsServing, IsServed, IsAsking, IsAsk, AskEndsWell, CheckEndsWell, IsCheckable}
 use Rattle.askrened.proofs.Loads.{loaded_is_good}
 use Rattle.askrened.specs.Status.{session_status, check_status}
 
 -- no memory for the journal
-pub no_session : (input output clock : Option (List ℕ)) → IsAsking Session.NoMemory (record { input = input; rest = input; output = output; written = output; clock = clock; ticked = clock })
-no_session input output clock =
+pub no_session : (channels locals : List Edge) (input output clock : Option (List ℕ))
+    → IsServing channels locals Session.NoMemory (record { input = input; rest = input; output = output; written = output; clock = clock; ticked = clock })
+no_session channels locals input output clock =
     let start : SessionState = record { log = []; clock = clock } in
-    record { log = []; session = told_none Answers only_caller input start output }
+    record { log = []; session = told_none (Answers channels locals) only_caller input start output }
+
+-- no memory before a session
+pub no_memory_is_ask : (files : Files) (map local : Option Bytes) (input output clock : Option (List ℕ))
+    → IsAsk files map local NoMemory (record { input = input; rest = input; output = output; written = output; clock = clock; ticked = clock })
+no_memory_is_ask files map local input output clock = inl (refl, refl, refl)
 
 status_ends_well : (end : SessionEnd) → EndsWell end → AskEndsWell (session_status end)
 status_ends_well Session.Done well = tt
@@ -83,79 +86,58 @@ check_loads_nothing Checks.ReadFault local fault = λ same. cc
 check_loads_nothing Checks.WriteFault local fault = λ same. cc
 check_loads_nothing Checks.Long local fault = λ same. cc
 
--- a session that a load comes before
-pub served_is_ask : (status : Status) (span : RunSpan) → IsServed status span → IsAsk status span × (status ≢ Usage)
-served_is_ask Ok span served = (served, λ same. cc)
-served_is_ask ReadFault span served = (served, λ same. cc)
-served_is_ask WriteFault span served = (served, λ same. cc)
-served_is_ask NoMemory span served = (served, λ same. cc)
-served_is_ask SessionFull span served = (served, λ same. cc)
-served_is_ask Long span served = (served, λ same. cc)
-served_is_ask Usage span served = absurd served
-served_is_ask (MapRefused local fault) span served = absurd served
-served_is_ask (CheckNo line readable) span served = absurd served
+-- a session over the files that were loaded
+served_asks : (files : Files) (map local : Option Bytes) (channels locals : List Edge) (status : Status) (span : RunSpan) → IsServed channels locals status span
+    → IsAsking files map local status span → IsAsk files map local status span × (status ≢ Usage)
+served_asks files map local channels locals Ok span served asking = (asking, λ same. cc)
+served_asks files map local channels locals ReadFault span served asking = (inr asking, λ same. cc)
+served_asks files map local channels locals WriteFault span served asking = (asking, λ same. cc)
+served_asks files map local channels locals NoMemory span served asking = (inr asking, λ same. cc)
+served_asks files map local channels locals SessionFull span served asking = (asking, λ same. cc)
+served_asks files map local channels locals Long span served asking = (asking, λ same. cc)
+served_asks files map local channels locals Usage span served asking = absurd served
+served_asks files map local channels locals (MapRefused is_local fault) span served asking = absurd served
+served_asks files map local channels locals (CheckNo line readable) span served asking = absurd served
 
-good_tells : (files : Files) (map local : Option Bytes) (status : Status) (span : RunSpan) → IsServed status span → IsGood map_reading files map → IsGood local_reading files local
+pub served_is_ask : (files : Files) (map local : Option Bytes) (channels locals : List Edge) (status : Status) (span : RunSpan) → IsServed channels locals status span
+    → IsLoadedAs map_reading files map channels → IsLoadedAs local_reading files local locals → IsAsk files map local status span × (status ≢ Usage)
+served_is_ask files map local channels locals status span served one two = served_asks files map local channels locals status span served
+    (record { channels = channels; locals = locals; map_loaded = one; local_loaded = two; served = served })
+
+good_tells : (files : Files) (map local : Option Bytes) (channels locals : List Edge) (status : Status) (span : RunSpan) → IsServed channels locals status span → IsGood map_reading files map → IsGood local_reading files local
     → TellsFiles files map local status
-good_tells files map local Ok span served one two = (one, two)
-good_tells files map local ReadFault span served one two = tt
-good_tells files map local WriteFault span served one two = (one, two)
-good_tells files map local NoMemory span served one two = tt
-good_tells files map local SessionFull span served one two = (one, two)
-good_tells files map local Long span served one two = (one, two)
-good_tells files map local Usage span served one two = absurd served
-good_tells files map local (MapRefused is_local fault) span served one two = absurd served
-good_tells files map local (CheckNo line readable) span served one two = absurd served
+good_tells files map local channels locals Ok span served one two = (one, two)
+good_tells files map local channels locals ReadFault span served one two = tt
+good_tells files map local channels locals WriteFault span served one two = (one, two)
+good_tells files map local channels locals NoMemory span served one two = tt
+good_tells files map local channels locals SessionFull span served one two = (one, two)
+good_tells files map local channels locals Long span served one two = (one, two)
+good_tells files map local channels locals Usage span served one two = absurd served
+good_tells files map local channels locals (MapRefused is_local fault) span served one two = absurd served
+good_tells files map local channels locals (CheckNo line readable) span served one two = absurd served
 
-pub served_tells : (files : Files) (map local : Option Bytes) (edges others : List Edge) (status : Status) (span : RunSpan) → IsServed status span
-    → IsLoadedAs map_reading files map edges → IsLoadedAs local_reading files local others → TellsFiles files map local status
-served_tells files map local edges others status span served one two =
-    good_tells files map local status span served (loaded_is_good map_reading files map edges one) (loaded_is_good local_reading files local others two)
+pub served_tells : (files : Files) (map local : Option Bytes) (channels locals : List Edge) (status : Status) (span : RunSpan) → IsServed channels locals status span
+    → IsLoadedAs map_reading files map channels → IsLoadedAs local_reading files local locals → TellsFiles files map local status
+served_tells files map local channels locals status span served one two =
+    good_tells files map local channels locals status span served (loaded_is_good map_reading files map channels one) (loaded_is_good local_reading files local locals two)
 
 pub served_ends_well : (told : Option (List ℕ)) (Opens Reads Writes Well : Type 0) → IfSome told (λ bytes. IsServable bytes → (Reads → ⊥) → (Writes → ⊥) → Well)
     → IfSome told (λ bytes. IsServable bytes → (Opens → ⊥) → (Reads → ⊥) → (Writes → ⊥) → Well)
 served_ends_well None Opens Reads Writes Well well = tt
 served_ends_well (Some bytes) Opens Reads Writes Well well = λ servable opens reads writes. well servable reads writes
 
--- a session that a fault of a load keeps from its beginning
-writes_none : (output : Option (List ℕ)) → Appends output output []
-writes_none None = tt
-writes_none (Some bytes) = sym (append-nil bytes)
-
-no_whole_lines : [] ≡ whole_lines []
-unfolding whole_lines
-no_whole_lines = refl
-
-told_unread : (told output clock : Option (List ℕ)) → IsToldSession Answers only_caller Session.ReadFault (record {
-  input = told;
-  rest = told;
-  output = output;
-  written = output;
-  before = record { log = []; clock = clock };
-  after = record { log = []; clock = clock };
-})
-told_unread None output clock = tt
-told_unread (Some input) output clock = record {
-  served = [];
-  replies = [];
-  serves = (refl, refl);
-  short = refl;
-  few = omega arith;
-  which = record { taken = []; consumed = refl; lines = no_whole_lines };
-  how = writes_none output;
-}
-
-pub load_fault_is_ask : (status : Status) (input output clock : Option (List ℕ)) → IsLoadFault status
-    → IsAsk status (record { input = input; rest = input; output = output; written = output; clock = clock; ticked = clock }) × (status ≢ Usage)
-load_fault_is_ask (MapRefused local fault) input output clock is = ((refl, refl, refl), λ same. cc)
-load_fault_is_ask ReadFault input output clock is = (record { log = []; session = told_unread input output clock }, λ same. cc)
-load_fault_is_ask NoMemory input output clock is = (no_session input output clock, λ same. cc)
-load_fault_is_ask Ok input output clock is = absurd is
-load_fault_is_ask Usage input output clock is = absurd is
-load_fault_is_ask WriteFault input output clock is = absurd is
-load_fault_is_ask (CheckNo line readable) input output clock is = absurd is
-load_fault_is_ask SessionFull input output clock is = absurd is
-load_fault_is_ask Long input output clock is = absurd is
+-- a load that fails
+pub load_fault_is_ask : (files : Files) (map local : Option Bytes) (status : Status) (input output clock : Option (List ℕ)) → IsLoadFault status
+    → IsAsk files map local status (record { input = input; rest = input; output = output; written = output; clock = clock; ticked = clock }) × (status ≢ Usage)
+load_fault_is_ask files map local (MapRefused is_local fault) input output clock is = ((refl, refl, refl), λ same. cc)
+load_fault_is_ask files map local ReadFault input output clock is = (inl (refl, refl, refl), λ same. cc)
+load_fault_is_ask files map local NoMemory input output clock is = (inl (refl, refl, refl), λ same. cc)
+load_fault_is_ask files map local Ok input output clock is = absurd is
+load_fault_is_ask files map local Usage input output clock is = absurd is
+load_fault_is_ask files map local WriteFault input output clock is = absurd is
+load_fault_is_ask files map local (CheckNo line readable) input output clock is = absurd is
+load_fault_is_ask files map local SessionFull input output clock is = absurd is
+load_fault_is_ask files map local Long input output clock is = absurd is
 
 -- a file that is known to be good is not refused
 fits_not : (reading : Reading) (fault : MapFault) → IsAccepted reading → IsMapFault fault reading → fault ≢ Fault.NoMemory → ⊥

@@ -1,5 +1,7 @@
 -- What a whole run of a command means, by its status.
-use Rattle.std.specs.Prelude.{◌≡◌, ◌≤◌, ℕ, List, [], length, Option, ⊤}
+use Rattle.std.specs.Prelude.{◌≡◌, ◌≤◌, ◌⊎◌, ℕ, List, [], length, Option, ⊤}
+use Rattle.channel_map.specs.declared.edge.Edge.{Edge}
+use Rattle.channel_map.specs.Reading.{map_reading, local_reading}
 use Rattle.one_history.specs.declared.entry.Entry.{Entry}
 use Rattle.askrene_command.specs.declared.command.Command.{Command}
 use Rattle.port_io.specs.declared.session_end.SessionEnd.{SessionEnd}
@@ -11,6 +13,8 @@ use Rattle.check_command.specs.Check.{IsCheck}
 use Rattle.session.specs.Answers.{Answers}
 use Rattle.session.specs.Caller.{only_caller}
 use Rattle.session.specs.Session.{IsToldSession}
+use Rattle.askrened.specs.Form.{Bytes}
+use Rattle.askrened.specs.Load.{Files, IsLoadedAs}
 use Rattle.askrened.specs.declared.status.Status.{Status}
 use Rattle.askrened.specs.declared.status.Status.TheVariants.{Ok, Usage, MapRefused, ReadFault, WriteFault, NoMemory, CheckNo, SessionFull, Long}
 
@@ -27,10 +31,10 @@ pub record RunSpan : Type 0 where
 abbrev pub IsUntouched : RunSpan → Type 0
 IsUntouched span = (span.rest ≡ span.input) × (span.written ≡ span.output) × (span.ticked ≡ span.clock)
 
--- a session of the only caller, from the empty history on
-pub record IsAsking (end : SessionEnd) (span : RunSpan) : Type 0 where
+-- a session of the only caller from the empty history on, with routes over the channels of a map and of a local file
+pub record IsServing (channels locals : List Edge) (end : SessionEnd) (span : RunSpan) : Type 0 where
   pub log : List (Entry Command)
-  pub session : IsToldSession Answers only_caller end (record {
+  pub session : IsToldSession (Answers channels locals) only_caller end (record {
     input = span.input;
     rest = span.rest;
     output = span.output;
@@ -40,21 +44,31 @@ pub record IsAsking (end : SessionEnd) (span : RunSpan) : Type 0 where
   })
 
 -- what a status of a session says
-abbrev pub IsServed : Status → RunSpan → Type 0
-IsServed Ok span = IsAsking Session.Done span
-IsServed ReadFault span = IsAsking Session.ReadFault span
-IsServed WriteFault span = IsAsking Session.WriteFault span
-IsServed NoMemory span = IsAsking Session.NoMemory span
-IsServed SessionFull span = IsAsking Session.Full span
-IsServed Long span = IsAsking Session.Long span
-IsServed Usage span = ⊥
-IsServed (MapRefused local fault) span = ⊥
-IsServed (CheckNo line readable) span = ⊥
+abbrev pub IsServed : List Edge → List Edge → Status → RunSpan → Type 0
+IsServed channels locals Ok span = IsServing channels locals Session.Done span
+IsServed channels locals ReadFault span = IsServing channels locals Session.ReadFault span
+IsServed channels locals WriteFault span = IsServing channels locals Session.WriteFault span
+IsServed channels locals NoMemory span = IsServing channels locals Session.NoMemory span
+IsServed channels locals SessionFull span = IsServing channels locals Session.Full span
+IsServed channels locals Long span = IsServing channels locals Session.Long span
+IsServed channels locals Usage span = ⊥
+IsServed channels locals (MapRefused local fault) span = ⊥
+IsServed channels locals (CheckNo line readable) span = ⊥
 
--- what a status of `ask` says of the streams and the clock
-abbrev pub IsAsk : Status → RunSpan → Type 0
-IsAsk (MapRefused local fault) span = IsUntouched span
-IsAsk status span = IsServed status span
+-- the map and the local file were loaded, and the lines were served over them
+pub record IsAsking (files : Files) (map local : Option Bytes) (status : Status) (span : RunSpan) : Type 0 where
+  pub channels : List Edge
+  pub locals : List Edge
+  pub map_loaded : IsLoadedAs map_reading files map channels
+  pub local_loaded : IsLoadedAs local_reading files local locals
+  pub served : IsServed channels locals status span
+
+-- what a status of `ask` says: a file may not be read, and memory may be short before a session
+abbrev pub IsAsk : Files → Option Bytes → Option Bytes → Status → RunSpan → Type 0
+IsAsk files map local (MapRefused is_local fault) span = IsUntouched span
+IsAsk files map local ReadFault span = IsUntouched span ⊎ IsAsking files map local ReadFault span
+IsAsk files map local NoMemory span = IsUntouched span ⊎ IsAsking files map local NoMemory span
+IsAsk files map local status span = IsAsking files map local status span
 
 abbrev pub IsCheckOf : CheckEnd → RunSpan → Type 0
 IsCheckOf end span = IsCheck end span.input span.rest span.output span.written

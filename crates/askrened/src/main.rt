@@ -5,6 +5,8 @@
 mod help;
 mod load;
 mod report;
+#[cfg(test)]
+mod rows;
 mod run;
 mod status;
 #[cfg(test)]

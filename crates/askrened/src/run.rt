@@ -13,16 +13,18 @@ use crate::load::load;
 use crate::status::Status;
 use crate::words::{Task, WordsFault, read_words};
 use askrene_state::State;
+use channel_map::{ChannelMap, Local};
 use check_command::check;
+use flow_solver::Keeping;
 use one_history::Journal;
 use port_io::{Clock, Places, Sink, Source};
 use session::ask_loop;
 use std::alloc::Global;
 
 /// Runs the command that the words after the program's name ask for. `ask` loads the map and the local file, and serves the
-/// lines of the input, from an empty history on; `check` writes one line on the certificate of the input. The files stay as
+/// lines of the input from an empty history on, with routes over these files; `check` writes one line on the certificate of the input. The files stay as
 /// they are.
-#[tactic(auto, using(crate::proofs::Asking::refused_asks_none, crate::proofs::Asking::if_asks, crate::proofs::Asking::if_checks, crate::proofs::Asking::asks_checks, crate::proofs::Asking::checks_asks, crate::proofs::Asking::if_asks_all, crate::proofs::Asking::if_checks_all, crate::proofs::Ends::no_session, crate::proofs::Spelled::plain_is_taken))]
+#[tactic(auto, using(crate::proofs::Asking::refused_asks_none, crate::proofs::Asking::if_asks, crate::proofs::Asking::if_checks, crate::proofs::Asking::asks_checks, crate::proofs::Asking::checks_asks, crate::proofs::Asking::if_asks_all, crate::proofs::Asking::if_checks_all, crate::proofs::Ends::no_memory_is_ask, crate::proofs::Spelled::plain_is_taken))]
 pub fn run<P: Places, I: Source, O: Sink, C: Clock>(
     alloc: Global,
     words: &[String],
@@ -37,7 +39,7 @@ pub fn run<P: Places, I: Source, O: Sink, C: Clock>(
         → (places.new ≡ places.old) × (input.new ≡ input.old) × (output.new ≡ output.old) × (clock.new ≡ clock.old) }
     ensures spelled { (wanted : Invocation) → IsPlain wanted → map string_bytes words.now ≡ spelling_of wanted
         → result ≢ Status.Usage }
-    ensures session { IfAsks (invocation_of (map string_bytes words.now)) (λ map_name local_name. IsAsk result (record {
+    ensures session { IfAsks (invocation_of (map string_bytes words.now)) (λ map_name local_name. IsAsk (P.file places.old) map_name local_name result (record {
       input = I.left input.old;
       rest = I.left input.new;
       output = O.written output.old;
@@ -95,14 +97,15 @@ fn ask<P: Places, I: Source, O: Sink, C: Clock>(
     clock: &mut C,
 ) -> Status
     ensures other { result ≢ Status.Usage }
-    ensures session { IsAsk result (record {
-      input = I.left input.old;
-      rest = I.left input.new;
-      output = O.written output.old;
-      written = O.written output.new;
-      clock = C.moments clock.old;
-      ticked = C.moments clock.new;
-    }) }
+    ensures session { IsAsk (P.file places.old)
+        (option_map (λ name. name.now) map.entry) (option_map (λ name. name.now) local.entry) result (record {
+          input = I.left input.old;
+          rest = I.left input.new;
+          output = O.written output.old;
+          written = O.written output.new;
+          clock = C.moments clock.old;
+          ticked = C.moments clock.new;
+        }) }
     ensures loaded { TellsFiles (P.file places.old)
         (option_map (λ name. name.now) map.entry) (option_map (λ name. name.now) local.entry) result }
     ensures map_refused_leaves { (local : Bool) (fault : MapFault) → result ≡ Status.MapRefused local fault
@@ -118,9 +121,8 @@ fn ask<P: Places, I: Source, O: Sink, C: Clock>(
     ensures write_fault { result ≡ Status.WriteFault → Rose (O.write_faults output.old) (O.write_faults output.new) }
     ensures files { (name : Bytes) → P.file places.new name ≡ P.file places.old name }
 {
-    // No method reads the map or the local file yet.
     match load(alloc, places, map, local) {
-        Ok((_map, _local)) => serve(alloc, input, output, clock),
+        Ok((map, local)) => serve(alloc, &map, &local, input, output, clock),
         Err(status) => status,
     }
 }
@@ -129,11 +131,13 @@ fn ask<P: Places, I: Source, O: Sink, C: Clock>(
 #[tactic(auto, using(crate::proofs::Ends::no_session, crate::proofs::Ends::no_session_ends_well))]
 fn serve<I: Source, O: Sink, C: Clock>(
     alloc: Global,
+    map: &ChannelMap,
+    local: &Local,
     input: &mut I,
     output: &mut O,
     clock: &mut C,
 ) -> Status
-    ensures session { IsServed result (record {
+    ensures session { IsServed map.now local.now result (record {
       input = I.left input.old;
       rest = I.left input.new;
       output = O.written output.old;
@@ -150,7 +154,7 @@ fn serve<I: Source, O: Sink, C: Clock>(
     let Ok(mut journal) = Journal::<State>::open(alloc) else {
         return Status::NoMemory;
     };
-    serve_over(alloc, &mut journal, input, output, clock)
+    serve_over(alloc, &mut journal, map, local, input, output, clock)
 }
 
 // Serves the lines of the input over an empty journal.
@@ -158,12 +162,14 @@ fn serve<I: Source, O: Sink, C: Clock>(
 fn serve_over<I: Source, O: Sink, C: Clock>(
     alloc: Global,
     journal: &mut Journal<State>,
+    map: &ChannelMap,
+    local: &Local,
     input: &mut I,
     output: &mut O,
     clock: &mut C,
 ) -> Status
     requires { journal.old ≡ [] }
-    ensures session { IsServed result (record {
+    ensures session { IsServed map.now local.now result (record {
       input = I.left input.old;
       rest = I.left input.new;
       output = O.written output.old;
@@ -177,7 +183,8 @@ fn serve_over<I: Source, O: Sink, C: Clock>(
     ensures read_fault { result ≡ Status.ReadFault → Rose (I.read_faults input.old) (I.read_faults input.new) }
     ensures write_fault { result ≡ Status.WriteFault → Rose (O.write_faults output.old) (O.write_faults output.new) }
 {
-    Status::from(ask_loop(alloc, journal, input, output, clock))
+    let end = ask_loop(alloc, journal, map, local, input, output, clock, &Keeping);
+    Status::from(end)
 }
 
 // Checks the certificate of the input.

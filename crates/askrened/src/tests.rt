@@ -1,3 +1,4 @@
+use crate::rows::{AMOUNTS, CERTIFIED, FILES, LAYERS, LIMITS, PATHS, Row};
 use crate::run::run;
 use crate::status::Status;
 use channel_map::MapFault;
@@ -201,6 +202,58 @@ fn there_may_be_too_many_lines(rt: HostRuntime) -> Result<(), Fail> {
     assert_eq!(rt; outcome.status, Status::SessionFull);
     assert_eq!(rt; outcome.status.code(), 8);
     assert!(rt; outcome.sink.bytes().is_empty());
+    Ok(())
+}
+
+/// Runs `ask` with the map and the local file of a row on lines.
+fn ask_over(alloc: Global, map: &str, local: &str, lines: &str) -> Result<Outcome, Fail> {
+    let mut files = Vec::new(alloc);
+    let mut words = Vec::new(alloc);
+    words.push("ask")?;
+    for (option, name, text) in [("--map", "map", map), ("--local", "local", local)] {
+        if !text.is_empty() {
+            files.push((name.to_string(alloc)?, text.as_bytes().to_vec(alloc)?))?;
+            words.push(option)?;
+            words.push(name)?;
+        }
+    }
+    let mut places = MemPlaces::new(files, Vec::new(alloc));
+    go(
+        alloc,
+        &words,
+        &mut places,
+        lines.as_bytes(),
+        4_096,
+        &[],
+        &[],
+    )
+}
+
+fn all_hold(alloc: Global, rows: &[Row]) -> Result<bool, Fail> {
+    for (map, local, lines, replies) in rows {
+        let outcome = ask_over(alloc, map, local, lines)?;
+        if outcome.status != Status::Ok || outcome.sink.bytes() != replies.as_bytes() {
+            return Ok(false);
+        }
+    }
+    Ok(true)
+}
+
+#[test]
+fn asks_get_their_routes(rt: HostRuntime) -> Result<(), Fail> {
+    assert!(rt; all_hold(rt.alloc(), PATHS)?);
+    assert!(rt; all_hold(rt.alloc(), LIMITS)?);
+    assert!(rt; all_hold(rt.alloc(), AMOUNTS)?);
+    assert!(rt; all_hold(rt.alloc(), LAYERS)?);
+    assert!(rt; all_hold(rt.alloc(), FILES)?);
+    Ok(())
+}
+
+#[test]
+fn a_certificate_is_printed(rt: HostRuntime) -> Result<(), Fail> {
+    let (map, line, beginning) = CERTIFIED;
+    let outcome = ask_over(rt.alloc(), map, "", line)?;
+    assert!(rt; outcome.sink.bytes().starts_with(beginning.as_bytes()));
     Ok(())
 }
 

@@ -1,13 +1,13 @@
 use Rattle.std.proofs.Common.{rules, ◌≡◌, Some, map, option_map, string_bytes}
 use Rattle.askrened.specs.Form.{invocation_of, ask_with}
 use Rattle.askrened.proofs.Asking.{if_asks, if_asks_all}
-use Rattle.askrened.proofs.Ends.{no_session}
+use Rattle.askrened.proofs.Ends.{no_memory_is_ask}
 use Rattle.askrened.proofs.run.run.Goals as goal
 
 pub returns-in-Err-NoMemory-clause-session : goal.returns-in-Err-NoMemory-clause-session
 returns-in-Err-NoMemory-clause-session g c =
     if_asks_all (invocation_of (map string_bytes c.args.words.now)) _ (λ map_name local_name.
-    no_session (g.I.Source.left c.args.input.now) (g.O.Sink.written c.args.output.now) (g.C.Clock.moments c.args.clock.now))
+    no_memory_is_ask (g.P.Places.file c.args.places.now) map_name local_name (g.I.Source.left c.args.input.now) (g.O.Sink.written c.args.output.now) (g.C.Clock.moments c.args.clock.now))
 
 pub returns-in-Ok-Ask-clause-complete : goal.returns-in-Ok-Ask-clause-complete
 returns-in-Ok-Ask-clause-complete g c =
