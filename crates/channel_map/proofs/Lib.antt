@@ -7,3 +7,4 @@ pub mod Turning
 pub mod Readings
 pub mod Search
 pub mod Good
+pub mod Numbered

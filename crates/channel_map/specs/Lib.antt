@@ -6,3 +6,4 @@ pub mod Reading
 pub mod Slots
 pub mod Found
 pub mod Listed
+pub mod Nodes

@@ -3,13 +3,15 @@ ghost use Rattle.channel_map.specs.Edge.{IsGoodEdge, IsGoodMap, IsAscending};
 ghost use Rattle.channel_map.specs.Channels.{listed_entries};
 ghost use Rattle.channel_map.specs.Found.{gathered_in};
 ghost use Rattle.channel_map.specs.Listed.{edge_for};
+ghost use Rattle.channel_map.specs.Nodes.{AreNodesOf};
 ghost use Rattle.channel_map.specs.Reading.{IsMapFault, IsReadAs, SizeTest, json_value, reading_of, reading_of_distinct, first_repeated, map_reading, local_reading};
 
 use crate::channels::read_listed;
 use crate::edge::Edge;
 use crate::entries::{Entries, Unread};
 use crate::fault::MapFault;
-use crate::order::{count_nodes, first_repeated, sort};
+use crate::nodes::{MapNodes, number_nodes};
+use crate::order::{count_nodes, first_repeated, gather_nodes, sort};
 use plan_base::Dir;
 use std::alloc::Global;
 use std::marker::Model;
@@ -27,19 +29,21 @@ pub const LOCAL_DIRECTIONS_MAX: usize = 4_096;
 #[derive(Debug, Drop)]
 pub struct ChannelMap {
     edges: Vec<Edge>,
+    nodes: MapNodes,
 }
 
 impl Model for ChannelMap {
     ghost use Rattle.std.specs.Prelude.{List};
     ghost use Rattle.channel_map.specs.declared.edge.Edge.{Edge};
     ghost use Rattle.channel_map.specs.Edge.{IsGoodMap};
+    ghost use Rattle.channel_map.specs.Nodes.{AreNodesOf};
     ghost use Rattle.channel_map.specs.declared.channel_map.TheConstants.{MAP_DIRECTIONS_MAX};
 
     ghost Value = { List Edge };
 
     ghost view = { λ map. map.edges.items };
 
-    ghost invariant = { λ map. IsGoodMap MAP_DIRECTIONS_MAX map.edges.items };
+    ghost invariant = { λ map. IsGoodMap MAP_DIRECTIONS_MAX map.edges.items × AreNodesOf map.edges.items map.nodes };
 }
 
 /// The channels of the node itself: at most `LOCAL_DIRECTIONS_MAX` directions, ascending, each at most once.
@@ -120,6 +124,10 @@ impl ChannelMap {
     {
         ChannelMap {
             edges: Vec::new(alloc),
+            nodes: MapNodes {
+                ids: Vec::new(alloc),
+                ends: Vec::new(alloc),
+            },
         }
     }
 
@@ -129,6 +137,13 @@ impl ChannelMap {
         ensures good { IsGoodMap MAP_DIRECTIONS_MAX self.now }
     {
         &self.edges
+    }
+
+    /// The nodes that are ends of the directions, and the places of the ends.
+    pub fn nodes(&self) -> &MapNodes
+        ensures { AreNodesOf self.now result.now }
+    {
+        &self.nodes
     }
 
     /// The direction's edge. None if and only if the direction is not listed.
@@ -181,12 +196,14 @@ pub fn read_map(alloc: Global, text: &[u8]) -> Result<ChannelMap, MapFault>
 {
     let mut edges = read_edges(alloc, text)?;
     let directions = edges.len();
-    let nodes = count_nodes(alloc, &edges)?;
+    let set = gather_nodes(alloc, &edges)?;
+    let nodes = set.len();
     if directions > MAP_DIRECTIONS_MAX || nodes > MAP_NODES_MAX {
         return Err(MapFault::TooMany { directions, nodes });
     }
     sort(&mut edges);
-    Ok(ChannelMap { edges })
+    let nodes = number_nodes(alloc, set, &edges)?;
+    Ok(ChannelMap { edges, nodes })
 }
 
 /// Reads the text of a local file, as `read_map` does, with the limit `LOCAL_DIRECTIONS_MAX` on directions and none on

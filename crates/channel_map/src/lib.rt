@@ -8,6 +8,7 @@ mod entries;
 mod entry;
 mod fault;
 mod key;
+mod nodes;
 mod order;
 
 pub use channel_map::{
@@ -16,6 +17,7 @@ pub use channel_map::{
 };
 pub use edge::Edge;
 pub use fault::{Field, MapFault};
+pub use nodes::{Ends, MapNodes};
 
 #[cfg(test)]
 mod tests;

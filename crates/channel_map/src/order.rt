@@ -25,12 +25,19 @@ pub(crate) fn first_repeated(alloc: Global, edges: &[Edge]) -> Result<Option<Dir
 pub(crate) fn count_nodes(alloc: Global, edges: &[Edge]) -> Result<usize, NoMemory>
     ensures { IfOk result (λ count. count ≡ length (nodes_of edges.now)) }
 {
+    Ok(gather_nodes(alloc, edges)?.len())
+}
+
+/// The ends of the directions, each node once.
+pub(crate) fn gather_nodes(alloc: Global, edges: &[Edge]) -> Result<IndexSet<NodeId>, NoMemory>
+    ensures { IfOk result (λ nodes. nodes.keys ≡ nodes_of edges.now) }
+{
     let mut nodes: IndexSet<NodeId> = IndexSet::new(alloc);
     for edge in edges {
         nodes.insert(edge.source)?;
         nodes.insert(edge.destination)?;
     }
-    Ok(nodes.len())
+    Ok(nodes)
 }
 
 /// Puts directions, none of which occurs twice, into ascending order.

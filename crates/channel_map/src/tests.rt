@@ -1,5 +1,5 @@
 //! Which fault each spoiled map has, and what is read of a good one.
-use crate::{ChannelMap, Field, Local, MapFault, read_local, read_map};
+use crate::{ChannelMap, Ends, Field, Local, MapFault, read_local, read_map};
 use plan_base::{Dir, NodeId};
 use std::alloc::{AllocError, Global};
 use std::test::Fail;
@@ -263,6 +263,16 @@ fn good_maps(rt: HostRuntime) -> Result<(), Fail> {
         })
     );
     let text = format!(in alloc; "{{\"result\":{{\"channels\":[{good},{earlier}]}}}}")?;
+    let map = read_map(alloc, text.as_bytes());
+    assert!(rt;
+        map.is_ok_and(|map| {
+            let nodes = map.nodes();
+            nodes.ids.len() == 2
+                && nodes.ids[0] == node
+                && nodes.ends.as_slice()
+                    == [Ends { from: 1, to: 0 }, Ends { from: 0, to: 1 }].as_slice()
+        })
+    );
     let local = read_local(alloc, text.as_bytes());
     assert!(rt;
         local.is_ok_and(|local| {

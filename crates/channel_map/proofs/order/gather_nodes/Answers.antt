@@ -1,7 +1,7 @@
 use Rattle.std.proofs.Common.{◌≡◌, ◌+◌, drop, fold, sym, ap, ◌∙◌, arith}
 use Rattle.channel_map.specs.Reading.{with_node, with_ends}
 use Rattle.channel_map.proofs.Turning.{ends_more}
-use Rattle.channel_map.proofs.order.count_nodes.Goals as goal
+use Rattle.channel_map.proofs.order.gather_nodes.Goals as goal
 
 pub loop-edge-preserved : goal.loop-edge-preserved
 loop-edge-preserved c =
