@@ -22,7 +22,7 @@ id_total = total texts_po (λ x y. refl)
 pub same_ids : (a b : List ℕ) → slice_cmp nat_cmp a b ≡ Equal → a ≡ b
 same_ids a b e = (bytes_eq-Decides a b).0 (sym (is_eq-slice_cmp a b) ∙ ap is_eq e)
 
-is_itself : (a : List ℕ) → is_eq (slice_cmp nat_cmp a a) ≡ true
+pub is_itself : (a : List ℕ) → is_eq (slice_cmp nat_cmp a a) ≡ true
 is_itself a = is_eq-slice_cmp a a ∙ (bytes_eq-Decides a a).1 refl
 
 pub same_node : (a b : List ℕ) → bytes_eq a b ≡ true → a ≡ b

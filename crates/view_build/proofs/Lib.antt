@@ -1,6 +1,5 @@
 pub mod Dirs
 pub mod Ids
-pub mod Ending
 pub mod Each
 pub mod Filtered
 pub mod Merging
@@ -10,4 +9,9 @@ pub mod Fields
 pub mod Bounds
 pub mod Created
 pub mod Rules
+pub mod Marks
+pub mod Ranking
+pub mod Numbering
+pub mod Tables
+pub mod Opening
 pub mod Views

@@ -1,6 +1,6 @@
--- A view from its directions and its nodes.
-use Rattle.std.proofs.Common.{◌≡◌, ℕ, zero, suc, ◌+◌, ◌*◌, ◌<◌, ◌≤◌, ◌⊎◌, inl, inr, List, [], ◌∷◌, length, get_or, Bool, true, false, cond, Option, Some, None, All, refl, sym, ap, subst, ◌∙◌, arith}
-use Rattle.std.specs.Prelude.{map, option_map, slice_index_or}
+-- The view from its directions.
+use Rattle.std.proofs.Common.{◌≡◌, ℕ, zero, suc, ◌+◌, ◌*◌, ◌≤◌, ◌⊎◌, List, [], ◌∷◌, length, Bool, true, false, cond, Option, Some, None, refl, sym, ap, subst, ◌∙◌, arith}
+use Rattle.std.specs.Prelude.{All, map, option_map, slice_index_or}
 use Rattle.std.specs.List.{Contains, cons_option, filter_map, find}
 use Rattle.std.specs.List.Sorted.{IsStrictlySortedBy}
 use Rattle.std.specs.Option.{option_and_then}
@@ -8,14 +8,13 @@ use Rattle.std.specs.Ordering.{nat_cmp}
 use Rattle.std.specs.Cmp.Lexicographic.{slice_cmp}
 use Rattle.std.specs.declared.cmp.Ordering.TheVariants.{Less}
 use Rattle.std.proofs.lemmas.List.{get_or_default, length-map}
-use Rattle.std.proofs.lemmas.List.Elements.{All-from_recursion, recursion_from_All}
+use Rattle.std.proofs.lemmas.List.Elements.{All-contains, All-from_recursion, All-weaker, recursion_from_All}
 use Rattle.std.proofs.lemmas.Map.Keys.{sorted_head, sorted_tail}
 use Rattle.plan_base.specs.Dir.{same_dir, dir_order}
 use Rattle.channel_map.specs.declared.edge.Edge.{Edge}
 use Rattle.channel_map.specs.Edge.{IsAscending, IsGoodEdge}
 use Rattle.channel_map.proofs.Ascending.{same_dir_equiv}
 use Rattle.view_build.specs.declared.open.Changes.{Changes}
-use Rattle.view_build.specs.declared.open.Open.{Open}
 use Rattle.view_build.specs.declared.view.TheConstants.{DIRECTIONS_MAX}
 use Rattle.view_build.specs.declared.view.ViewDir.{ViewDir}
 use Rattle.layer.specs.Ask.{IsGoodAsk, asks_for}
@@ -27,14 +26,14 @@ use Rattle.layer.specs.Layer.{LayerLists}
 use Rattle.auto_layers.specs.Expanded.{expanded_layers}
 use Rattle.view_build.specs.View.{IsGoodView, IsGoodViewDir}
 use Rattle.view_build.specs.Built.{ViewSources, OpenDirection, IsTouched, IsView, named_direction}
-use Rattle.view_build.specs.Ends.{IsPlace, all_ends}
+use Rattle.view_build.specs.Ends.{HasEnd, IsPlace}
 use Rattle.view_build.specs.Merged.{merged}
-use Rattle.view_build.specs.Opened.{AreChangesOf, AreCreated, IsGoodOpen, IsOpened, open_of, opened, opened_by}
+use Rattle.view_build.specs.Opened.{AreChangesOf, AreCreated, AreDirections, HasPlaces, IsGoodOpen, IsOpened, Opens, opened, opened_by}
 use Rattle.view_build.proofs.Each.{each_unmap, same_filtered}
-use Rattle.view_build.proofs.Ending.{ending_at, has_source, has_destination, later}
 use Rattle.view_build.proofs.Filtered.{found_filtered, still_sorted, less_apart}
 use Rattle.view_build.proofs.Merging.{each_merged, itself, merged_edge, merged_length, merged_up}
 use Rattle.view_build.proofs.Rules.{edge_found, opened_dir, opened_same}
+use Rattle.view_build.proofs.Tables.{later}
 
 filtered_length : {X Y : Type 0} (f : X → Option Y) (xs : List X) → length (filter_map f xs) ≤ length xs
 filtered_length f [] = omega arith
@@ -45,31 +44,27 @@ filtered_length {Y} f (x ∷ xs) = by (filtered_length f xs) (f x)
     by rest (Some y) = omega arith
 
 -- the directions of a view from those of the map and the created ones
-module _ (sources : ViewSources) (changes : Changes) (created : List Edge) (opens : List Open)
+module _ (sources : ViewSources) (changes : Changes) (created : List Edge) (ids : List (List ℕ)) (dirs : List ViewDir)
     (are : AreChangesOf sources changes)
     (map_up : IsAscending sources.channels) (created_are : AreCreated sources created)
     (map_good : All IsGoodEdge sources.channels) (created_good : All IsGoodEdge created)
     (few : length sources.channels + length created ≤ DIRECTIONS_MAX)
-    (opens_are : map open_of opens ≡ filter_map (opened_by changes) (merged sources.channels created))
-    (good : All IsGoodOpen opens) where
-  opens_ruled : map open_of opens ≡ filter_map (opened sources) (merged sources.channels created)
-  opens_ruled = opens_are ∙ same_filtered IsGoodEdge (opened_by changes) (opened sources) (λ edge h. opened_same sources changes are edge h) (merged sources.channels created)
+    (opens : Opens ids (opened_by changes) (merged sources.channels created) [] dirs) where
+  opens_ruled : map (named_direction ids) dirs ≡ filter_map (opened sources) (merged sources.channels created)
+  opens_ruled = opens.named ∙ same_filtered IsGoodEdge (opened_by changes) (opened sources) (λ edge h. opened_same sources changes are edge h) (merged sources.channels created)
       (each_merged IsGoodEdge sources.channels created (recursion_from_All IsGoodEdge sources.channels map_good) (recursion_from_All IsGoodEdge created created_good))
 
   up : IsAscending (merged sources.channels created)
   up = merged_up sources.channels created map_up created_are.ascending created_are.apart
 
-  pub all_opened : IsOpened sources opens
+  pub all_opened : IsOpened sources (map (named_direction ids) dirs)
   all_opened = record {
     each = λ dir. ap (find (λ (o : OpenDirection). same_dir o.dir dir)) opens_ruled
         ∙ found_filtered (λ (e : Edge). e.dir) (λ (o : OpenDirection). o.dir) (opened sources) (opened_dir sources) dir (merged sources.channels created) up
         ∙ ap (option_and_then (opened sources)) (sym (edge_found dir (merged sources.channels created)) ∙ merged_edge sources.channels created created_are.apart dir) ∙ created_are.ruled dir;
     ascending = subst (λ list. IsStrictlySortedBy dir_order (map (λ (o : OpenDirection). o.dir) list)) (sym opens_ruled)
         (still_sorted (λ (e : Edge). e.dir) (λ (o : OpenDirection). o.dir) (opened sources) (opened_dir sources) (merged sources.channels created) up);
-    good = good;
-    few =
-        let same : length opens ≡ length (filter_map (opened_by changes) (merged sources.channels created)) = sym (length-map opens open_of) ∙ ap length opens_are in
-        omega (arith, same, filtered_length (opened_by changes) (merged sources.channels created), merged_length sources.channels created);
+    few = omega (arith, ap length opens_ruled, filtered_length (opened sources) (merged sources.channels created), merged_length sources.channels created);
   }
 
 pub few_expanded : (local : LayerLists) (asked : List Asked) (layers : List LayerLists) → length (expanded_layers local asked layers) ≤ length asked
@@ -100,49 +95,79 @@ there test (y ∷ xs) x e = by (there test xs x) (test y) e
     by rest true e = (zero, omega arith, cc)
     by rest false e = later xs x y (rest e)
 
-mapped : (opens : List Open) (o : Open) → Contains opens o → Contains (map open_of opens) (open_of o)
-mapped [] o (k, within, is) = absurd (omega arith)
-mapped (x ∷ opens) o (zero, within, is) = (zero, omega arith, ap open_of is)
-mapped (x ∷ opens) o (suc k, within, is) = later (map open_of opens) (open_of o) (open_of x) (mapped opens o (k, omega arith, is))
+mapped : (ids : List (List ℕ)) (dirs : List ViewDir) (d : ViewDir) → Contains dirs d → Contains (map (named_direction ids) dirs) (named_direction ids d)
+mapped ids [] d (k, within, is) = absurd (omega arith)
+mapped ids (x ∷ dirs) d (zero, within, is) = (zero, omega arith, ap (named_direction ids) is)
+mapped ids (x ∷ dirs) d (suc k, within, is) = later (map (named_direction ids) dirs) (named_direction ids d) (named_direction ids x) (mapped ids dirs d (k, omega arith, is))
 
-pub record Unmapped (opens : List Open) (o : OpenDirection) : Type 0 where
-  pub direction : Open
-  pub among : Contains opens direction
-  pub is : open_of direction ≡ o
+pub record Unmapped (ids : List (List ℕ)) (dirs : List ViewDir) (o : OpenDirection) : Type 0 where
+  pub direction : ViewDir
+  pub among : Contains dirs direction
+  pub is : named_direction ids direction ≡ o
 
-unmapped : (opens : List Open) (o : OpenDirection) → Contains (map open_of opens) o → Unmapped opens o
-unmapped [] o (k, within, is) = absurd (omega arith)
-unmapped (x ∷ opens) o (zero, within, is) = record { direction = x; among = (zero, omega arith, refl); is = is }
-unmapped (x ∷ opens) o (suc k, within, is) =
-    let rest = unmapped opens o (k, omega arith, is) in
-    record { direction = rest.direction; among = later opens rest.direction x rest.among; is = rest.is }
+unmapped : (ids : List (List ℕ)) (dirs : List ViewDir) (o : OpenDirection) → Contains (map (named_direction ids) dirs) o → Unmapped ids dirs o
+unmapped ids [] o (k, within, is) = absurd (omega arith)
+unmapped ids (x ∷ dirs) o (zero, within, is) = record { direction = x; among = (zero, omega arith, refl); is = is }
+unmapped ids (x ∷ dirs) o (suc k, within, is) =
+    let rest = unmapped ids dirs o (k, omega arith, is) in
+    record { direction = rest.direction; among = later dirs rest.direction x rest.among; is = rest.is }
 
-module _ (sources : ViewSources) (opens : List Open) (are : IsOpened sources opens) where
+module _ (sources : ViewSources) (ids : List (List ℕ)) (dirs : List ViewDir) (are : IsOpened sources (map (named_direction ids) dirs)) (good : All IsGoodOpen dirs) where
   -- an end of a direction is touched
-  pub touched : (node : List ℕ) → Contains (all_ends opens) node → IsTouched sources node
-  touched node among =
-      let ending = ending_at opens node among in
-      let o = ending.direction in
+  touched : (node : List ℕ) → HasEnd ids dirs node → IsTouched sources node
+  touched node end =
+      let d = end.direction in
       record {
-        dir = o.dir;
+        dir = d.dir;
         is_end = record {
-          direction = open_of o;
-          side = subst (λ (x : Open). x.dir.side < 2) ending.among.2 (are.good ending.among.0 o ending.among.1).side;
-          listed = sym (are.each o.dir) ∙ found_self (map open_of opens) (open_of o) are.ascending (mapped opens o ending.among);
-          ends = ending.ends;
+          direction = named_direction ids d;
+          side = (All-contains IsGoodOpen dirs d good end.among).side;
+          listed = sym (are.each d.dir) ∙ found_self (map (named_direction ids) dirs) (named_direction ids d) are.ascending (mapped ids dirs d end.among);
+          ends = end.ends;
         };
       }
 
   -- what is touched is an end of a direction
-  pub ends_touched : (node : List ℕ) → IsTouched sources node → Contains (all_ends opens) node
+  ends_touched : (node : List ℕ) → IsTouched sources node → HasEnd ids dirs node
   ends_touched node at =
       let o = at.is_end.direction in
-      let found = unmapped opens o (there (λ (x : OpenDirection). same_dir x.dir at.dir) (map open_of opens) o (are.each at.dir ∙ at.is_end.listed)) in
-      by found at.is_end.ends
-    where
-      by : Unmapped opens at.is_end.direction → (at.is_end.direction.source ≡ node) ⊎ (at.is_end.direction.destination ≡ node) → Contains (all_ends opens) node
-      by found (inl is) = subst (Contains (all_ends opens)) (ap (λ (x : OpenDirection). x.source) found.is ∙ is) (has_source opens found.direction found.among)
-      by found (inr is) = subst (Contains (all_ends opens)) (ap (λ (x : OpenDirection). x.destination) found.is ∙ is) (has_destination opens found.direction found.among)
+      let found = unmapped ids dirs o (there (λ (x : OpenDirection). same_dir x.dir at.dir) (map (named_direction ids) dirs) o (are.each at.dir ∙ at.is_end.listed)) in
+      record { direction = found.direction; among = found.among; ends = subst (λ (x : OpenDirection). (x.source ≡ node) ⊎ (x.destination ≡ node)) (sym found.is) at.is_end.ends }
+
+  -- the same directions between the nodes that they touch
+  pub directions : (nodes : List (List ℕ)) (renamed : List ViewDir) → IsStrictlySortedBy (slice_cmp nat_cmp) nodes → length nodes ≤ 2 * length dirs
+      → ((node : List ℕ) → HasEnd ids dirs node → Contains nodes node) → All (HasEnd ids dirs) nodes
+      → map (named_direction nodes) renamed ≡ map (named_direction ids) dirs → All (IsGoodViewDir (length nodes)) renamed → AreDirections sources nodes renamed
+  directions nodes renamed ascend few all only same good_renamed =
+      let long : length renamed ≡ length dirs = sym (length-map renamed (named_direction nodes)) ∙ ap length same ∙ length-map dirs (named_direction ids) in
+      record {
+        opened = subst (IsOpened sources) (sym same) are;
+        good = good_renamed;
+        ascend = ascend;
+        few = omega (arith, long, few);
+        only = All-weaker (HasEnd ids dirs) (IsTouched sources) touched nodes only;
+        all = λ node at. all node (ends_touched node at);
+      }
+
+-- a direction with good amounts between two places
+pub good_dirs : (n : ℕ) (dirs : List ViewDir) → All IsGoodOpen dirs → All (HasPlaces n) dirs → All (IsGoodViewDir n) dirs
+good_dirs n dirs goods places k d within =
+    let good = goods k d within in
+    let at = places k d within in
+    record {
+      from_in = at.from;
+      to_in = at.to;
+      apart = at.apart;
+      bounds = good.bounds;
+      most = good.most;
+      htlc_min = good.htlc_min;
+      htlc_max = good.htlc_max;
+      base = good.base;
+      ppm = good.ppm;
+      delay = good.delay;
+      bias_low = good.bias_low;
+      bias_high = good.bias_high;
+    }
 
 pub place_among : (nodes : List (List ℕ)) (node : List ℕ) (place : ℕ) → IsPlace nodes node place → Contains nodes node
 place_among nodes node place at = (place, at.within, get_or_default nodes place node [] at.within ∙ at.is)
@@ -160,17 +185,12 @@ find_map {X} {Y} f test (x ∷ xs) = by (find_map f test xs) (test (f x))
     by rest false = rest
 
 -- the view of these directions, between these nodes
-module _ (sources : ViewSources) (opens : List Open) (are : IsOpened sources opens) (nodes : List (List ℕ)) (dirs : List ViewDir) (source destination maxparts : ℕ)
-    (ascend : IsStrictlySortedBy (slice_cmp nat_cmp) nodes) (few : length nodes ≤ 2 * length opens)
-    (only : (node : List ℕ) → Contains nodes node → Contains (all_ends opens) node)
-    (named : map (named_direction nodes) dirs ≡ map open_of opens) (good : All (IsGoodViewDir (length nodes)) dirs)
+module _ (sources : ViewSources) (nodes : List (List ℕ)) (dirs : List ViewDir) (source destination maxparts : ℕ)
+    (are : AreDirections sources nodes dirs)
     (source_is : IsPlace nodes sources.ask.source source) (destination_is : IsPlace nodes sources.ask.destination destination)
     (ask : IsGoodAsk sources.ask) (maxparts_is : maxparts ≡ cond (asks_for NoMpp sources.ask.layers) 1 sources.ask.maxparts) where
-  same_length : length dirs ≡ length opens
-  same_length = sym (length-map dirs (named_direction nodes)) ∙ ap length named ∙ length-map opens open_of
-
   dirs_up : IsStrictlySortedBy dir_order (map (λ (d : ViewDir). d.dir) dirs)
-  dirs_up = subst (IsStrictlySortedBy dir_order) (sym (ap (map (λ (o : OpenDirection). o.dir)) named) ∙ map_map (named_direction nodes) (λ (o : OpenDirection). o.dir) dirs) are.ascending
+  dirs_up = subst (IsStrictlySortedBy dir_order) (map_map (named_direction nodes) (λ (o : OpenDirection). o.dir) dirs) are.opened.ascending
 
   some_parts : (one : Bool) (most : ℕ) → 1 ≤ most → 1 ≤ cond one 1 most
   some_parts true most h = omega arith
@@ -182,10 +202,10 @@ module _ (sources : ViewSources) (opens : List Open) (are : IsOpened sources ope
 
   pub good_view : IsGoodView (record { nodes = nodes; dirs = dirs; source = source; destination = destination; maxparts = maxparts })
   good_view = record {
-    few_dirs = omega (arith, same_length, are.few);
-    few_nodes = omega (arith, same_length, few);
+    few_dirs = omega (arith, length-map dirs (named_direction nodes), are.opened.few);
+    few_nodes = are.few;
     ascending = dirs_up;
-    good = good;
+    good = are.good;
     source_in = source_is.within;
     destination_in = destination_is.within;
     ends_differ = λ same. ask.apart (sym source_is.is ∙ ap (λ place. slice_index_or nodes place []) same ∙ destination_is.is);
@@ -195,10 +215,10 @@ module _ (sources : ViewSources) (opens : List Open) (are : IsOpened sources ope
 
   pub is_view : IsView sources (record { nodes = nodes; dirs = dirs; source = source; destination = destination; maxparts = maxparts })
   is_view = record {
-    each = λ dir _. find_map (named_direction nodes) (λ (o : OpenDirection). same_dir o.dir dir) dirs ∙ ap (find (λ (o : OpenDirection). same_dir o.dir dir)) named ∙ are.each dir;
+    each = λ dir _. find_map (named_direction nodes) (λ (o : OpenDirection). same_dir o.dir dir) dirs ∙ are.opened.each dir;
     ascending = dirs_up;
-    nodes_ascend = ascend;
-    touched = λ k d within. touched sources opens are (get_or nodes k d) (only (get_or nodes k d) (k, within, get_or_default nodes k (get_or nodes k d) d within));
+    nodes_ascend = are.ascend;
+    touched = are.only;
     source_is = source_is.is;
     destination_is = destination_is.is;
     maxparts_is = maxparts_is;

@@ -9,3 +9,5 @@ pub mod Disabled
 pub mod Merged
 pub mod Opened
 pub mod Ends
+pub mod Ranked
+pub mod Table

@@ -1,12 +1,14 @@
 -- Serves private clauses only: directions as they are in a view, before their ends are numbered.
-use Rattle.std.specs.Prelude.{◌≡◌, ◌≢◌, ℕ, ◌-◌, ◌^◌, ◌<◌, ◌≤◌, ◌≤ℤ◌, ◌&&◌, min, nat_eq, not, true, length, map, All, List, Bool, false, Option, Some, None, cond, unwrap_or}
-use Rattle.std.specs.List.{find}
+use Rattle.std.specs.Prelude.{◌≡◌, ◌≢◌, ℕ, ◌-◌, ◌*◌, ◌^◌, ◌++◌, ◌<◌, ◌≤◌, ◌≤ℤ◌, ◌&&◌, min, nat_eq, not, true, length, map, All, List, Bool, false, Option, Some, None, cond, unwrap_or}
+use Rattle.std.specs.List.{Contains, filter_map, find}
 use Rattle.std.specs.Option.{is_some, option_and_then, option_or}
 use Rattle.std.specs.List.Sorted.{IsStrictlySortedBy}
-use Rattle.std.specs.Cmp.Lexicographic.{pointwise}
+use Rattle.std.specs.Ordering.{nat_cmp}
+use Rattle.std.specs.Cmp.Lexicographic.{pointwise, slice_cmp}
 use Rattle.plan_base.specs.declared.amount.TheConstants.{MAX}
 use Rattle.plan_base.specs.Dir.{Direction, same_dir, dir_order}
 use Rattle.channel_map.specs.declared.edge.Edge.{Edge}
+use Rattle.channel_map.specs.declared.nodes.Ends.{Ends}
 use Rattle.channel_map.specs.Edge.{IsAscending}
 use Rattle.channel_map.specs.Listed.{edge_for}
 use Rattle.layer.specs.Update.{IsGoodUpdate}
@@ -14,27 +16,29 @@ use Rattle.layer.specs.declared.records.Update.{Update}
 use Rattle.layer.specs.declared.records.TheConstants.{BIAS_MIN, BIAS_MAX}
 use Rattle.view_build.specs.declared.view.TheConstants.{DIRECTIONS_MAX}
 use Rattle.view_build.specs.declared.known.Known.{Known}
-use Rattle.view_build.specs.declared.open.Open.{Open}
 use Rattle.view_build.specs.declared.open.Changes.{Changes}
-use Rattle.view_build.specs.Built.{ViewSources, OpenDirection, if_open, direction_rule, is_free, cut_bias}
+use Rattle.view_build.specs.declared.view.ViewDir.{ViewDir}
+use Rattle.view_build.specs.View.{IsGoodViewDir}
+use Rattle.view_build.specs.Built.{ViewSources, OpenDirection, IsTouched, named_direction, if_open, direction_rule, is_free, cut_bias}
 use Rattle.view_build.specs.Disabled.{has_node}
 use Rattle.view_build.specs.Given.{fields_at, fields_of}
 use Rattle.view_build.specs.Known.{known_at, known_of}
 use Rattle.view_build.specs.Rules.{changed_edge, is_disabled}
 
-abbrev pub open_of : Open → OpenDirection
-open_of open_dir = record {
-  dir = open_dir.dir;
-  source = open_dir.source;
-  destination = open_dir.destination;
-  min = open_dir.min;
-  max = open_dir.max;
-  htlc_min = open_dir.htlc_min;
-  htlc_max = open_dir.htlc_max;
-  base = open_dir.base;
-  ppm = open_dir.ppm;
-  delay = open_dir.delay;
-  bias = open_dir.bias;
+-- the direction between two places
+abbrev pub placed : Ends → OpenDirection → ViewDir
+placed ends o = record {
+  dir = o.dir;
+  from = ends.from;
+  to = ends.to;
+  min = o.min;
+  max = o.max;
+  htlc_min = o.htlc_min;
+  htlc_max = o.htlc_max;
+  base = o.base;
+  ppm = o.ppm;
+  delay = o.delay;
+  bias = o.bias;
 }
 
 -- what the view has for a direction of the map, or for one that a layer creates
@@ -82,19 +86,29 @@ pub record AreChangesOf (sources : ViewSources) (changes : Changes) : Type 0 whe
 abbrev pub AreGoodChanges : Changes → Type 0
 AreGoodChanges changes = (dir : Direction) → IsGoodUpdate (fields_at changes.given dir)
 
--- a direction between two nodes; its bounds, and the amounts of an HTLC, are amounts, and its bias is in range
-pub record IsGoodOpen (open_dir : Open) : Type 0 where
-  pub side : open_dir.dir.side < 2
-  pub apart : open_dir.source ≢ open_dir.destination
-  pub bounds : open_dir.min ≤ open_dir.max
-  pub most : open_dir.max ≤ MAX
-  pub htlc_min : open_dir.htlc_min ≤ MAX
-  pub htlc_max : open_dir.htlc_max ≤ MAX
-  pub base : open_dir.base < 2 ^ 32
-  pub ppm : open_dir.ppm < 2 ^ 32
-  pub delay : open_dir.delay < 2 ^ 16
-  pub bias_low : BIAS_MIN ≤ℤ open_dir.bias
-  pub bias_high : open_dir.bias ≤ℤ BIAS_MAX
+-- its bounds, and the amounts of an HTLC, are amounts, and its bias is in range
+pub record IsGoodOpen (d : ViewDir) : Type 0 where
+  pub side : d.dir.side < 2
+  pub bounds : d.min ≤ d.max
+  pub most : d.max ≤ MAX
+  pub htlc_min : d.htlc_min ≤ MAX
+  pub htlc_max : d.htlc_max ≤ MAX
+  pub base : d.base < 2 ^ 32
+  pub ppm : d.ppm < 2 ^ 32
+  pub delay : d.delay < 2 ^ 16
+  pub bias_low : BIAS_MIN ≤ℤ d.bias
+  pub bias_high : d.bias ≤ℤ BIAS_MAX
+
+-- between two of so many nodes
+pub record HasPlaces (nodes : ℕ) (d : ViewDir) : Type 0 where
+  pub from : d.from < nodes
+  pub to : d.to < nodes
+  pub apart : d.from ≢ d.to
+
+-- the directions `new` are `old` and those that a rule keeps of `edges`, with their ends at places among the ids
+pub record Opens (ids : List (List ℕ)) (rule : Edge → Option OpenDirection) (edges : List Edge) (old new : List ViewDir) : Type 0 where
+  pub named : map (named_direction ids) new ≡ map (named_direction ids) old ++ filter_map rule edges
+  pub places : All (HasPlaces (length ids)) old → All (HasPlaces (length ids)) new
 
 -- the created directions that the map lacks and a layer enables, in their order: with those of the map they are all that
 -- a view can have
@@ -104,8 +118,16 @@ pub record AreCreated (sources : ViewSources) (created : List Edge) : Type 0 whe
   pub ruled : (dir : Direction) → option_and_then (opened sources) (option_or (edge_for dir sources.channels) (edge_for dir created)) ≡ direction_rule sources dir
 
 -- these are the directions of a view, in their order
-pub record IsOpened (sources : ViewSources) (opens : List Open) : Type 0 where
-  pub each : (dir : Direction) → find (λ (o : OpenDirection). same_dir o.dir dir) (map open_of opens) ≡ direction_rule sources dir
-  pub ascending : IsStrictlySortedBy dir_order (map (λ (o : OpenDirection). o.dir) (map open_of opens))
-  pub good : All IsGoodOpen opens
-  pub few : length opens ≤ DIRECTIONS_MAX
+pub record IsOpened (sources : ViewSources) (directions : List OpenDirection) : Type 0 where
+  pub each : (dir : Direction) → find (λ (o : OpenDirection). same_dir o.dir dir) directions ≡ direction_rule sources dir
+  pub ascending : IsStrictlySortedBy dir_order (map (λ (o : OpenDirection). o.dir) directions)
+  pub few : length directions ≤ DIRECTIONS_MAX
+
+-- these are the nodes and the directions of a view
+pub record AreDirections (sources : ViewSources) (nodes : List (List ℕ)) (dirs : List ViewDir) : Type 0 where
+  pub opened : IsOpened sources (map (named_direction nodes) dirs)
+  pub good : All (IsGoodViewDir (length nodes)) dirs
+  pub ascend : IsStrictlySortedBy (slice_cmp nat_cmp) nodes
+  pub few : length nodes ≤ 2 * length dirs
+  pub only : All (IsTouched sources) nodes
+  pub all : (node : List ℕ) → IsTouched sources node → Contains nodes node

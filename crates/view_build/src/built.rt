@@ -9,16 +9,16 @@ ghost use Rattle.layer.specs.declared.ask.TheConstants.{ASKED_MAX};
 ghost use Rattle.layer.specs.declared.ask.Auto.TheVariants.{SourceFree};
 ghost use Rattle.view_build.specs.Built.{IsView, IsViewFault, ViewSources, is_free, sources_of};
 ghost use Rattle.view_build.specs.Given.{fields_at, fields_of};
-ghost use Rattle.view_build.specs.Opened.{AreChangesOf, AreCreated, AreGoodChanges, IsOpened, leaves};
+ghost use Rattle.view_build.specs.Opened.{AreChangesOf, AreCreated, AreDirections, AreGoodChanges, leaves};
 
 use crate::channels::{channels_by, created_edges};
 use crate::disabled::disabled_by;
 use crate::given::given_by;
 use crate::known::known_by;
-use crate::merge::merged;
-use crate::nodes::{find, nodes_of};
-use crate::numbered::numbered;
-use crate::open::{Changes, Open, open_all};
+use crate::nodes::find;
+use crate::numbered::{Numbered, number_dirs};
+use crate::open::{Changes, open_all};
+use crate::table::table_of;
 use crate::{View, ViewFault};
 use auto_layers::{Expanded, expand};
 use channel_map::{ChannelMap, Edge, Local};
@@ -39,8 +39,7 @@ pub fn build(
 {
     let ask = snapshot.ask();
     let expanded = expand(alloc, snapshot, local)?;
-    let opens = opens_of(alloc, snapshot, map, &expanded)?;
-    let nodes = nodes_of(alloc, &opens)?;
+    let Numbered { nodes, dirs } = directions_of(alloc, snapshot, map, &expanded)?;
     let source = match find(&nodes, &ask.source) {
         Some(place) => place,
         None => return Err(ViewFault::SourceUnknown),
@@ -49,7 +48,6 @@ pub fn build(
         Some(place) => place,
         None => return Err(ViewFault::DestinationUnknown),
     };
-    let dirs = numbered(alloc, &opens, &nodes)?;
     let maxparts = maxparts_of(ask, expanded.single);
     Ok(View::new(nodes, dirs, source, destination, maxparts))
 }
@@ -60,23 +58,25 @@ fn maxparts_of(ask: &Ask, single: bool) -> u8
     if single { 1 } else { ask.maxparts }
 }
 
-// The directions of the view.
-fn opens_of(
+// The nodes and the directions of the view.
+fn directions_of(
     alloc: Global,
     snapshot: &Snapshot,
     map: &ChannelMap,
     expanded: &Expanded,
-) -> Result<Vec<Open>, NoMemory>
+) -> Result<Numbered, NoMemory>
     requires few { length expanded.now.layers ≤ ASKED_MAX }
     requires source_free { expanded.now.source_free ≡ asks_for SourceFree snapshot.now.ask.layers }
-    ensures { IfOk result (λ opens. IsOpened (record { channels = map.now; ask = snapshot.now.ask; layers = expanded.now.layers; held = snapshot.now.held }) opens.items) }
+    ensures { IfOk result (λ n. AreDirections (record { channels = map.now; ask = snapshot.now.ask; layers = expanded.now.layers; held = snapshot.now.held }) n.nodes.items n.dirs.items) }
 {
     let given = given_by(alloc, expanded.layers.as_slice())?;
     let created = created_by(alloc, expanded.layers.as_slice(), &given, map)?;
-    let edges = merged(alloc, map.dirs(), &created)?;
+    let nodes = map.nodes();
+    let table = table_of(alloc, &nodes.ids, &created)?;
     let changes = changes_by(alloc, snapshot, expanded, given)?;
-    let opens = open_all(alloc, &changes, &edges)?;
-    Ok(opens)
+    let dirs = open_all(alloc, &changes, map.dirs(), nodes, &created, &table)?;
+    let numbered = number_dirs(alloc, &table.ids, dirs)?;
+    Ok(numbered)
 }
 
 fn created_by(

@@ -7,10 +7,10 @@ mod disabled;
 mod fault;
 mod given;
 mod known;
-mod merge;
 mod nodes;
 mod numbered;
 mod open;
+mod table;
 mod view;
 
 pub use built::build;

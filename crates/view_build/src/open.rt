@@ -1,15 +1,24 @@
-ghost use Rattle.std.specs.Prelude.{ℕ, ◌≡◌, ◌-◌, ◌≤ℤ◌, ◌++◌, ◌∷◌, [], All, map, option_map, IfOk, IfSome, OnOk};
-ghost use Rattle.std.specs.List.{filter_map};
+ghost use Rattle.std.specs.Prelude.{ℕ, ◌≡◌, ◌-◌, ◌^◌, ◌<◌, ◌≤◌, ◌≤ℤ◌, ◌++◌, ◌∷◌, [], All, drop, length, option_map, IfOk, IfSome, OnOk};
+ghost use Rattle.std.specs.List.{cons_option};
+ghost use Rattle.std.specs.List.Sorted.{IsStrictlySortedBy};
+ghost use Rattle.std.specs.Ordering.{nat_cmp};
+ghost use Rattle.std.specs.Cmp.Lexicographic.{slice_cmp};
 ghost use Rattle.channel_map.specs.Edge.{IsGoodEdge};
+ghost use Rattle.channel_map.specs.Nodes.{AreNodesOf, ArePlaces, HasBothEnds, ends_of, named_ends};
 ghost use Rattle.layer.specs.Update.{IsGoodUpdate};
 ghost use Rattle.layer.specs.declared.records.TheConstants.{BIAS_MIN, BIAS_MAX};
 ghost use Rattle.view_build.specs.Built.{cut_bias};
-ghost use Rattle.view_build.specs.Opened.{AreGoodChanges, IsGoodOpen, changed, is_usable, leaves, open_of, opened_by};
+ghost use Rattle.view_build.specs.Merged.{below, from_dir, merged};
+ghost use Rattle.view_build.specs.Opened.{AreGoodChanges, IsGoodOpen, Opens, changed, is_usable, leaves, opened_by, placed};
+ghost use Rattle.view_build.specs.Table.{IsTable, moved_ends};
 
+use crate::ViewDir;
 use crate::disabled::has_node;
 use crate::given::fields_at;
 use crate::known::{Known, known_at};
-use channel_map::Edge;
+use crate::nodes::place_of;
+use crate::table::Table;
+use channel_map::{Edge, Ends, MapNodes};
 use layer::{BIAS_MAX, BIAS_MIN, Update};
 use plan_base::{Dir, NoMemory, NodeId};
 use std::alloc::Global;
@@ -25,58 +34,146 @@ pub(crate) struct Changes {
     pub(crate) free_source: Option<NodeId>,
 }
 
-// A direction of a view, before its ends are numbered.
-#[derive(Clone, Copy, Debug)]
-pub(crate) struct Open {
-    pub(crate) dir: Dir,
-    pub(crate) source: NodeId,
-    pub(crate) destination: NodeId,
-    pub(crate) min: u64,
-    pub(crate) max: u64,
-    pub(crate) htlc_min: u64,
-    pub(crate) htlc_max: u64,
-    pub(crate) base: u32,
-    pub(crate) ppm: u32,
-    pub(crate) delay: u16,
-    pub(crate) bias: i8,
-}
-
-// The directions as the changes have them, less those that they leave out.
+// The directions of a map and the created ones as the changes have them, less those that they leave out, in one order.
 pub(crate) fn open_all(
     alloc: Global,
     changes: &Changes,
     edges: &[Edge],
-) -> Result<Vec<Open>, NoMemory>
+    nodes: &MapNodes,
+    created: &[Edge],
+    table: &Table,
+) -> Result<Vec<ViewDir>, NoMemory>
     requires changes { AreGoodChanges changes.now }
     requires edges { All IsGoodEdge edges.now }
-    ensures opens { IfOk result (λ opens. map open_of opens.items ≡ filter_map (opened_by changes.now) edges.now) }
-    ensures good { IfOk result (λ opens. All IsGoodOpen opens.items) }
+    requires nodes { AreNodesOf edges.now nodes.now }
+    requires created { All IsGoodEdge created.now }
+    requires table { IsTable nodes.now.ids.items created.now table.now }
+    ensures opens { IfOk result (λ dirs. Opens table.now.ids.items (opened_by changes.now) (merged edges.now created.now) [] dirs.items) }
+    ensures good { IfOk result (λ dirs. All IsGoodOpen dirs.items) }
 {
-    let mut opens = Vec::new(alloc);
-    for edge in edges {
-        push_open(&mut opens, changes, edge)?;
+    let mut dirs = Vec::with_capacity(alloc, edges.len())?;
+    let mut next = 0;
+    for i in 0..edges.len() {
+        let edge = &edges[i];
+        next = open_below(&mut dirs, changes, table, created, edge.dir, next)?;
+        let ends = moved_ends(&table.moved, nodes.ends[i]);
+        push_open(&mut dirs, changes, edge, ends)?;
     }
-    Ok(opens)
+    open_rest(&mut dirs, changes, table, created, next)?;
+    Ok(dirs)
 }
 
-fn push_open(opens: &mut Vec<Open>, changes: &Changes, edge: &Edge) -> Result<(), NoMemory>
+// Appends the created directions below another one, from a place on, and returns the place after them.
+fn open_below(
+    dirs: &mut Vec<ViewDir>,
+    changes: &Changes,
+    table: &Table,
+    created: &[Edge],
+    dir: Dir,
+    from: usize,
+) -> Result<usize, NoMemory>
+    requires changes { AreGoodChanges changes.now }
+    requires created { All IsGoodEdge created.now }
+    requires ascend { IsStrictlySortedBy (slice_cmp nat_cmp) table.now.ids.items }
+    requires few { length table.now.ids.items < 2 ^ 32 }
+    requires ends { All (HasBothEnds table.now.ids.items) created.now }
+    requires dirs { All IsGoodOpen dirs.old.items }
+    requires from { from ≤ length created.now }
+    ensures opens { OnOk result (Opens table.now.ids.items (opened_by changes.now) (below dir (drop from created.now)) dirs.old.items dirs.new.items) }
+    ensures good { OnOk result (All IsGoodOpen dirs.new.items) }
+    ensures rest { IfOk result (λ next. drop next created.now ≡ from_dir dir (drop from created.now)) }
+    ensures within { IfOk result (λ next. next ≤ length created.now) }
+{
+    for next in from..created.len() {
+        let edge = &created[next];
+        if edge.dir >= dir {
+            return Ok(next);
+        }
+        push_created(dirs, changes, table, edge)?;
+    }
+    Ok(created.len())
+}
+
+// Appends the created directions from a place on.
+fn open_rest(
+    dirs: &mut Vec<ViewDir>,
+    changes: &Changes,
+    table: &Table,
+    created: &[Edge],
+    from: usize,
+) -> Result<(), NoMemory>
+    requires changes { AreGoodChanges changes.now }
+    requires created { All IsGoodEdge created.now }
+    requires ascend { IsStrictlySortedBy (slice_cmp nat_cmp) table.now.ids.items }
+    requires few { length table.now.ids.items < 2 ^ 32 }
+    requires ends { All (HasBothEnds table.now.ids.items) created.now }
+    requires dirs { All IsGoodOpen dirs.old.items }
+    requires from { from ≤ length created.now }
+    ensures opens { OnOk result (Opens table.now.ids.items (opened_by changes.now) (drop from created.now) dirs.old.items dirs.new.items) }
+    ensures good { OnOk result (All IsGoodOpen dirs.new.items) }
+{
+    for next in from..created.len() {
+        push_created(dirs, changes, table, &created[next])?;
+    }
+    Ok(())
+}
+
+fn push_created(
+    dirs: &mut Vec<ViewDir>,
+    changes: &Changes,
+    table: &Table,
+    edge: &Edge,
+) -> Result<(), NoMemory>
     requires changes { AreGoodChanges changes.now }
     requires edge { IsGoodEdge edge.now }
-    requires opens { All IsGoodOpen opens.old.items }
-    ensures opens { OnOk result (map open_of opens.new.items ≡ map open_of opens.old.items ++ filter_map (opened_by changes.now) (edge.now ∷ [])) }
-    ensures good { OnOk result (All IsGoodOpen opens.new.items) }
+    requires ascend { IsStrictlySortedBy (slice_cmp nat_cmp) table.now.ids.items }
+    requires few { length table.now.ids.items < 2 ^ 32 }
+    requires ends { HasBothEnds table.now.ids.items edge.now }
+    requires dirs { All IsGoodOpen dirs.old.items }
+    ensures opens { OnOk result (Opens table.now.ids.items (opened_by changes.now) (edge.now ∷ []) dirs.old.items dirs.new.items) }
+    ensures good { OnOk result (All IsGoodOpen dirs.new.items) }
 {
-    if let Some(open) = open_one(changes, edge) {
-        opens.push(open)?;
+    let ends = Ends {
+        from: place_of(&table.ids, &edge.source),
+        to: place_of(&table.ids, &edge.destination),
+    };
+    push_open(dirs, changes, edge, ends)?;
+    Ok(())
+}
+
+fn moved_ends(moved: &[u32], ends: Ends) -> Ends
+    requires { ArePlaces (length moved.now) ends }
+    ensures { result ≡ moved_ends moved.now ends }
+{
+    Ends {
+        from: moved[ends.from as usize],
+        to: moved[ends.to as usize],
+    }
+}
+
+fn push_open(
+    dirs: &mut Vec<ViewDir>,
+    changes: &Changes,
+    edge: &Edge,
+    ends: Ends,
+) -> Result<(), NoMemory>
+    requires changes { AreGoodChanges changes.now }
+    requires edge { IsGoodEdge edge.now }
+    requires dirs { All IsGoodOpen dirs.old.items }
+    ensures dirs { OnOk result (dirs.new.items ≡ dirs.old.items ++ cons_option (option_map (placed ends) (opened_by changes.now edge.now)) []) }
+    ensures good { OnOk result (All IsGoodOpen dirs.new.items) }
+{
+    if let Some(open) = open_one(changes, edge, ends) {
+        dirs.push(open)?;
         return Ok(());
     }
     Ok(())
 }
 
-fn open_one(changes: &Changes, edge: &Edge) -> Option<Open>
+fn open_one(changes: &Changes, edge: &Edge, ends: Ends) -> Option<ViewDir>
     requires changes { AreGoodChanges changes.now }
     requires edge { IsGoodEdge edge.now }
-    ensures value { option_map open_of result ≡ opened_by changes.now edge.now }
+    ensures value { result ≡ option_map (placed ends) (opened_by changes.now edge.now) }
     ensures good { IfSome result IsGoodOpen }
 {
     let fields = fields_at(&changes.given, edge.dir);
@@ -84,7 +181,13 @@ fn open_one(changes: &Changes, edge: &Edge) -> Option<Open>
         return None;
     }
     let known = known_at(&changes.known, edge.dir);
-    Some(changed(&fields, known, leaves(&changes.free_source, edge), edge))
+    Some(changed(
+        &fields,
+        known,
+        leaves(&changes.free_source, edge),
+        edge,
+        ends,
+    ))
 }
 
 fn is_usable(changes: &Changes, fields: &Update, edge: &Edge) -> bool
@@ -104,17 +207,17 @@ fn leaves(node: &Option<NodeId>, edge: &Edge) -> bool
     }
 }
 
-fn changed(fields: &Update, known: Known, free: bool, edge: &Edge) -> Open
+fn changed(fields: &Update, known: Known, free: bool, edge: &Edge, ends: Ends) -> ViewDir
     requires fields { IsGoodUpdate fields.now }
     requires edge { IsGoodEdge edge.now }
-    ensures value { open_of result ≡ changed fields.now known free edge.now }
+    ensures value { result ≡ placed ends (changed fields.now known free edge.now) }
     ensures good { IsGoodOpen result }
 {
     let maximum = edge.capacity.min(known.maximum);
-    Open {
+    ViewDir {
         dir: edge.dir,
-        source: edge.source,
-        destination: edge.destination,
+        from: ends.from,
+        to: ends.to,
         min: left_over(known.minimum.min(maximum), known.reserved),
         max: left_over(maximum, known.reserved),
         htlc_min: fields.htlc_min.unwrap_or(edge.htlc_min),

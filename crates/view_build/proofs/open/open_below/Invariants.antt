@@ -1,0 +1,15 @@
+use Rattle.std.proofs.Common.{◌≡◌, ◌++◌, All, drop, length, map}
+use Rattle.std.specs.List.{filter_map}
+use Rattle.view_build.specs.Built.{named_direction}
+use Rattle.view_build.specs.Merged.{below, from_dir}
+use Rattle.view_build.specs.Opened.{HasPlaces, IsGoodOpen, opened_by}
+use Rattle.view_build.proofs.open.open_below.Given as goal
+
+abbrev pub invariant-loop-next : goal.invariant-loop-next
+invariant-loop-next l = record {
+  named : map (named_direction l.table.ids.items) l.dirs.items ++ filter_map (opened_by l.changes) (below l.dir (drop l.next l.created))
+      ≡ map (named_direction l.table.ids.items) l.initial.dirs.items ++ filter_map (opened_by l.changes) (below l.dir (drop l.from l.created));
+  places : All (HasPlaces (length l.table.ids.items)) l.initial.dirs.items → All (HasPlaces (length l.table.ids.items)) l.dirs.items;
+  good : All IsGoodOpen l.dirs.items;
+  rest : from_dir l.dir (drop l.next l.created) ≡ from_dir l.dir (drop l.from l.created);
+}

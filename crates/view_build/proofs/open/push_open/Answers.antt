@@ -1,6 +1,0 @@
-use Rattle.std.proofs.lemmas.List.Elements.{All-push}
-use Rattle.view_build.specs.Opened.{IsGoodOpen}
-use Rattle.view_build.proofs.open.push_open.Goals as goal
-
-pub returns-in-Some-clause-good : goal.returns-in-Some-clause-good
-returns-in-Some-clause-good c = rw c.in_ok-push.ensures.items (All-push IsGoodOpen c.args.opens.now.items c.in-Some.open c.requires.opens c.in-Some.ensures.good)
