@@ -15,3 +15,4 @@ pub mod Numbering
 pub mod Tables
 pub mod Opening
 pub mod Views
+pub mod Walking

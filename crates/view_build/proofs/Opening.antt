@@ -1,23 +1,27 @@
 -- Directions with the places of their ends, one after another.
 use Rattle.std.proofs.Common.{◌≡◌, ◌≢◌, ℕ, ◌+◌, ◌<◌, List, [], ◌∷◌, ◌++◌, length, get_or, drop, Bool, true, false, cond, Option, Some, None, if◌then◌else◌, refl, sym, ap, subst, ◌∙◌, append_assoc, append-nil, arith}
 use Rattle.std.specs.Prelude.{All, map, option_map}
-use Rattle.std.specs.List.{cons_option, filter_map}
+use Rattle.std.specs.List.{cons_option, filter_map, list_any}
 use Rattle.std.specs.Ordering.{is_lt}
 use Rattle.std.proofs.lemmas.List.{drop_more, get_or-map, length-map, map-append}
 use Rattle.std.proofs.lemmas.List.Elements.{All-push, filter_map-append}
-use Rattle.plan_base.specs.Dir.{Direction, dir_order}
+use Rattle.plan_base.specs.Dir.{Direction, same_dir, dir_order}
+use Rattle.layer.specs.declared.records.Update.{Update}
 use Rattle.channel_map.specs.declared.edge.Edge.{Edge}
 use Rattle.channel_map.specs.declared.nodes.Ends.{Ends}
 use Rattle.channel_map.specs.declared.nodes.MapNodes.{MapNodes}
 use Rattle.channel_map.specs.Edge.{IsGoodEdge}
 use Rattle.channel_map.specs.Nodes.{AreNodesOf, ArePlaces, ends_of, named_ends}
+use Rattle.view_build.specs.declared.known.Known.{Known}
 use Rattle.view_build.specs.declared.open.Changes.{Changes}
+use Rattle.view_build.specs.declared.open.Place.{Place}
 use Rattle.view_build.specs.declared.view.ViewDir.{ViewDir}
 use Rattle.view_build.specs.Built.{OpenDirection, named_direction}
-use Rattle.view_build.specs.Given.{fields_at}
-use Rattle.view_build.specs.Known.{known_at}
+use Rattle.view_build.specs.Disabled.{has_node}
+use Rattle.view_build.specs.Given.{fields_at, no_fields}
+use Rattle.view_build.specs.Known.{known_at, unknown}
 use Rattle.view_build.specs.Merged.{below, from_dir, merged}
-use Rattle.view_build.specs.Opened.{HasPlaces, Opens, changed, is_usable, leaves, opened_by, placed}
+use Rattle.view_build.specs.Opened.{AreAffected, HasPlaces, IsPlaceOf, Opens, changed, is_usable, leaves, opened_by, opened_with, placed}
 use Rattle.view_build.specs.Table.{moved_ends, named_places}
 
 -- a direction between two ids
@@ -93,7 +97,7 @@ opens_more ids rule edges rest later old new all opens is before =
 -- ---- the directions of a map
 
 module _ (nodes ids : List (List ℕ)) (moved : List ℕ) (named : named_places ids moved ≡ nodes) (within : All (λ place. place < length ids) moved) where
-  long : length moved ≡ length nodes
+  pub long : length moved ≡ length nodes
   long = sym (length-map moved (λ place. get_or ids place [])) ∙ ap length named
 
   moved_place : (place : ℕ) → place < length nodes → get_or ids (get_or moved place 0) [] ≡ get_or nodes place []
@@ -121,3 +125,24 @@ pub merged_more : (edges created : List Edge) (i : ℕ) (e : Edge) (next : List 
     → merged (drop i edges) created ≡ below e.dir created ++ e ∷ merged (drop (i + 1) edges) next
 merged_more edges created i e next below_all is rest =
     ap (λ list. merged list created) (at_place edges i e below_all is) ∙ ap (λ list. below e.dir created ++ e ∷ merged (drop (i + 1) edges) list) (sym rest)
+
+-- ---- directions of which nothing is said, and disabled ends
+
+pub plain : (changes : Changes) (edge : Edge) (fields : Update) (known : Known) → AreAffected changes → list_any (same_dir edge.dir) changes.affected.items ≡ false → fields ≡ no_fields edge.dir → known ≡ unknown
+    → opened_with changes fields known edge ≡ opened_by changes edge
+plain changes edge fields known are none fields_are known_is =
+    ap (λ (u : Update). opened_with changes u known edge) (fields_are ∙ sym (are.given edge.dir none))
+    ∙ ap (λ (n : Known). opened_with changes (fields_at changes.given edge.dir) n edge) (known_is ∙ sym (are.known edge.dir none))
+
+pub within_marks : (changes : Changes) (ids : List (List ℕ)) (marks : List Bool) (moved : List ℕ) → marks ≡ map (has_node changes.disabled) ids → All (λ place. place < length ids) moved → All (λ place. place < length marks) moved
+within_marks changes ids marks moved is all k d within = omega (arith, all k d within, ap length is, length-map ids (has_node changes.disabled))
+
+pub marked_ends : (changes : Changes) (edge : Edge) (ids : List (List ℕ)) (marks : List Bool) (ends : Ends) (place : Place) → marks ≡ map (has_node changes.disabled) ids → named_ends ids ends ≡ ends_of edge → ArePlaces (length ids) ends
+    → place.source_disabled ≡ get_or marks ends.from false → place.destination_disabled ≡ get_or marks ends.to false → IsPlaceOf changes edge place
+marked_ends changes edge ids marks ends place is named at source destination = record {
+  source = source ∙ mark ends.from at.from ∙ ap (λ (p : List ℕ × List ℕ). has_node changes.disabled p.0) named;
+  destination = destination ∙ mark ends.to at.to ∙ ap (λ (p : List ℕ × List ℕ). has_node changes.disabled p.1) named;
+}
+  where
+    mark : (p : ℕ) → p < length ids → get_or marks p false ≡ has_node changes.disabled (get_or ids p [])
+    mark p within = ap (λ ms. get_or ms p false) is ∙ get_or-map (has_node changes.disabled) ids p [] false within

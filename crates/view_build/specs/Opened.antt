@@ -1,6 +1,6 @@
 -- Serves private clauses only: directions as they are in a view, before their ends are numbered.
 use Rattle.std.specs.Prelude.{◌≡◌, ◌≢◌, ℕ, ◌-◌, ◌*◌, ◌^◌, ◌++◌, ◌<◌, ◌≤◌, ◌≤ℤ◌, ◌&&◌, min, nat_eq, not, true, length, map, All, List, Bool, false, Option, Some, None, cond, unwrap_or}
-use Rattle.std.specs.List.{Contains, filter_map, find}
+use Rattle.std.specs.List.{Contains, filter_map, find, list_any}
 use Rattle.std.specs.Option.{is_some, option_and_then, option_or}
 use Rattle.std.specs.List.Sorted.{IsStrictlySortedBy}
 use Rattle.std.specs.Ordering.{nat_cmp}
@@ -17,12 +17,13 @@ use Rattle.layer.specs.declared.records.TheConstants.{BIAS_MIN, BIAS_MAX}
 use Rattle.view_build.specs.declared.view.TheConstants.{DIRECTIONS_MAX}
 use Rattle.view_build.specs.declared.known.Known.{Known}
 use Rattle.view_build.specs.declared.open.Changes.{Changes}
+use Rattle.view_build.specs.declared.open.Place.{Place}
 use Rattle.view_build.specs.declared.view.ViewDir.{ViewDir}
 use Rattle.view_build.specs.View.{IsGoodViewDir}
 use Rattle.view_build.specs.Built.{ViewSources, OpenDirection, IsTouched, named_direction, if_open, direction_rule, is_free, cut_bias}
 use Rattle.view_build.specs.Disabled.{has_node}
-use Rattle.view_build.specs.Given.{fields_at, fields_of}
-use Rattle.view_build.specs.Known.{known_at, known_of}
+use Rattle.view_build.specs.Given.{fields_at, fields_of, no_fields}
+use Rattle.view_build.specs.Known.{known_at, known_of, unknown}
 use Rattle.view_build.specs.Rules.{changed_edge, is_disabled}
 
 -- the direction between two places
@@ -69,11 +70,24 @@ changed fields known free edge = record {
 abbrev pub is_usable : Changes → Update → Edge → Bool
 is_usable changes fields edge = unwrap_or fields.enabled edge.enabled && not (has_node changes.disabled edge.source) && not (has_node changes.disabled edge.destination)
 
+-- the direction as given fields and what is known have it, unless it is not usable
+abbrev pub opened_with : Changes → Update → Known → Edge → Option OpenDirection
+opened_with changes fields known edge = cond (is_usable changes fields edge) (Some (changed fields known (leaves changes.free_source edge) edge)) None
+
 -- the direction as the changes have it, unless they leave it out
 abbrev pub opened_by : Changes → Edge → Option OpenDirection
-opened_by changes edge =
-    cond (is_usable changes (fields_at changes.given edge.dir) edge)
-    (Some (changed (fields_at changes.given edge.dir) (known_at changes.known edge.dir) (leaves changes.free_source edge) edge)) None
+opened_by changes edge = opened_with changes (fields_at changes.given edge.dir) (known_at changes.known edge.dir) edge
+
+-- the marks are those of the ends of the direction
+pub record IsPlaceOf (changes : Changes) (edge : Edge) (place : Place) : Type 0 where
+  pub source : place.source_disabled ≡ has_node changes.disabled edge.source
+  pub destination : place.destination_disabled ≡ has_node changes.disabled edge.destination
+
+-- the affected directions ascend, and nothing is said of any other one
+pub record AreAffected (changes : Changes) : Type 0 where
+  pub ascend : IsStrictlySortedBy dir_order changes.affected.items
+  pub given : (dir : Direction) → list_any (same_dir dir) changes.affected.items ≡ false → fields_at changes.given dir ≡ no_fields dir
+  pub known : (dir : Direction) → list_any (same_dir dir) changes.affected.items ≡ false → known_at changes.known dir ≡ unknown
 
 -- the changes are those of the layers and reservations of a view
 pub record AreChangesOf (sources : ViewSources) (changes : Changes) : Type 0 where

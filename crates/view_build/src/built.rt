@@ -9,8 +9,9 @@ ghost use Rattle.layer.specs.declared.ask.TheConstants.{ASKED_MAX};
 ghost use Rattle.layer.specs.declared.ask.Auto.TheVariants.{SourceFree};
 ghost use Rattle.view_build.specs.Built.{IsView, IsViewFault, ViewSources, is_free, sources_of};
 ghost use Rattle.view_build.specs.Given.{fields_at, fields_of};
-ghost use Rattle.view_build.specs.Opened.{AreChangesOf, AreCreated, AreDirections, AreGoodChanges, leaves};
+ghost use Rattle.view_build.specs.Opened.{AreAffected, AreChangesOf, AreCreated, AreDirections, AreGoodChanges, leaves};
 
+use crate::affected::affected_by;
 use crate::channels::{channels_by, created_edges};
 use crate::disabled::disabled_by;
 use crate::given::given_by;
@@ -106,15 +107,18 @@ fn changes_by(
     requires source_free { expanded.now.source_free ≡ asks_for SourceFree snapshot.now.ask.layers }
     ensures changes { IfOk result (λ changes. (sources : ViewSources) → sources.ask ≡ snapshot.now.ask → sources.layers ≡ expanded.now.layers → sources.held ≡ snapshot.now.held → AreChangesOf sources changes) }
     ensures good { IfOk result AreGoodChanges }
+    ensures affected { IfOk result AreAffected }
 {
     let layers = expanded.layers.as_slice();
     let known = known_by(alloc, layers, snapshot.held())?;
     let disabled = disabled_by(alloc, layers)?;
+    let affected = affected_by(alloc, &given, &known)?;
     Ok(Changes {
         given,
         known,
         disabled,
         free_source: free_source(snapshot.ask(), expanded.source_free),
+        affected,
     })
 }
 

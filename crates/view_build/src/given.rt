@@ -75,7 +75,7 @@ pub(crate) fn fields_at(map: &BTreeMap<Dir, Update>, dir: Dir) -> Update
     }
 }
 
-fn no_fields(dir: Dir) -> Update
+pub(crate) fn no_fields(dir: Dir) -> Update
     ensures { result ≡ no_fields dir }
 {
     Update {

@@ -165,11 +165,17 @@ pub(crate) fn known_at(map: &BTreeMap<Dir, Known>, dir: Dir) -> Known
 {
     match map.get(&dir) {
         Some(known) => *known,
-        None => Known {
-            maximum: MAX,
-            minimum: 0,
-            bias: 0,
-            reserved: 0,
-        },
+        None => unknown(),
+    }
+}
+
+pub(crate) fn unknown() -> Known
+    ensures { result ≡ unknown }
+{
+    Known {
+        maximum: MAX,
+        minimum: 0,
+        bias: 0,
+        reserved: 0,
     }
 }

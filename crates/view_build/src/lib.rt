@@ -1,6 +1,7 @@
 //! The view of a payer: the directions that an ask may use, as the layers and the reservations leave them.
 #![tactic(auto)]
 
+mod affected;
 mod built;
 mod channels;
 mod disabled;

@@ -2,7 +2,7 @@ use Rattle.std.proofs.Common.{◌+◌, ◌≤◌, List, [], length, refl, sym, a
 use Rattle.std.specs.Prelude.{All, map as rename}
 use Rattle.std.proofs.lemmas.List.Elements.{All-nil}
 use Rattle.channel_map.specs.declared.edge.Edge.{Edge}
-use Rattle.channel_map.specs.Edge.{IsGoodEdge}
+use Rattle.channel_map.specs.Edge.{IsAscending, IsGoodEdge}
 use Rattle.channel_map.specs.Nodes.{AreNodesOf}
 use Rattle.view_build.specs.declared.view.TheConstants.{DIRECTIONS_MAX}
 use Rattle.view_build.specs.Built.{ViewSources, named_direction}
@@ -25,7 +25,9 @@ open_all-requires c =
     let table = c.in_ok-table.table in
     record {
       changes = c.in_ok-changes.ensures.good;
+      affected = c.in_ok-changes.ensures.affected;
       edges = subst (All IsGoodEdge) (sym c.dirs.ensures.list) c.dirs.ensures.good.good;
+      ascend = subst IsAscending (sym c.dirs.ensures.list) c.dirs.ensures.good.ascending;
       nodes = subst (λ (edges : List Edge). AreNodesOf edges nodes) (sym c.dirs.ensures.list) c.nodes-nodes.ensures;
       created = subst (All IsGoodEdge) (sym c.deref-3.ensures.value) c.in_ok-created.ensures.good;
       table = subst (λ ids. IsTable ids c.deref-3.result.now table) c.deref.ensures.value
