@@ -1,7 +1,9 @@
 pub mod Faults
 pub mod FileList
 pub mod Files
+pub mod MemAcceptor
 pub mod MemClock
+pub mod MemLink
 pub mod MemPlaces
 pub mod MemSink
 pub mod MemSource

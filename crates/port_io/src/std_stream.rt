@@ -1,4 +1,7 @@
-ghost use Rattle.std.specs.Prelude.{◌≡◌, None};
+ghost use Rattle.std.specs.Prelude.{◌≡◌, ◌<◌, length, None};
+ghost use Rattle.std.specs.Io.{ReadsAtMost, WritesAtMost};
+ghost use Rattle.std.specs.Io.KnownBytes.{ReadConsumes, WriteAppends};
+ghost use Rattle.port_io.specs.Faults.{HasCause, TakesSome};
 
 use crate::{Failed, Sink, Source};
 use std::io::{ErrorKind, Read, Write};
@@ -35,19 +38,7 @@ impl<R: Read> Source for StdSource<R> {
     ghost beside_reading = { λ s. (None, 0) };
 
     fn read(&mut self, into: &mut [u8]) -> Result<usize, Failed> {
-        'tries: for _ in 0..u64::MAX {
-            match self.inner.read(into) {
-                Ok(count) => return Ok(count),
-                Err(fault) => {
-                    self.faults = self.faults.saturating_add(1);
-                    if fault.kind() != ErrorKind::Interrupted {
-                        return Err(Failed);
-                    }
-                }
-            }
-        }
-        self.faults = self.faults.saturating_add(1);
-        Err(Failed)
+        read_counted(&mut self.inner, &mut self.faults, into)
     }
 }
 
@@ -76,16 +67,57 @@ impl<W: Write> Sink for StdSink<W> {
     ghost beside_writing = { λ s. (None, 0) };
 
     fn write(&mut self, from: &[u8]) -> Result<usize, Failed> {
-        'tries: for _ in 0..u64::MAX {
-            match self.inner.write(from) {
-                Ok(count) if count > 0 || from.is_empty() => return Ok(count),
-                Err(fault) if fault.kind() == ErrorKind::Interrupted => {
-                    self.faults = self.faults.saturating_add(1);
+        write_counted(&mut self.inner, &mut self.faults, from)
+    }
+}
+
+// Reads once, and again while a read is interrupted. Counts each `Err`.
+pub(crate) fn read_counted<R: Read>(
+    inner: &mut R,
+    faults: &mut u64,
+    into: &mut [u8],
+) -> Result<usize, Failed>
+    requires room { 0 < length into.old }
+    ensures bound { ReadsAtMost result into.new }
+    ensures bytes { ReadConsumes (R.remaining inner.old) (R.remaining inner.new) result into.new }
+    ensures cause { HasCause faults.old faults.new result }
+{
+    'tries: for _ in 0..u64::MAX {
+        match inner.read(into) {
+            Ok(count) => return Ok(count),
+            Err(fault) => {
+                *faults = faults.saturating_add(1);
+                if fault.kind() != ErrorKind::Interrupted {
+                    return Err(Failed);
                 }
-                Ok(_) | Err(_) => break 'tries,
             }
         }
-        self.faults = self.faults.saturating_add(1);
-        Err(Failed)
     }
+    *faults = faults.saturating_add(1);
+    Err(Failed)
+}
+
+// Writes once, and again while a write is interrupted. Counts each `Err`, and a write that takes nothing of a piece that
+// is not empty.
+pub(crate) fn write_counted<W: Write>(
+    inner: &mut W,
+    faults: &mut u64,
+    from: &[u8],
+) -> Result<usize, Failed>
+    ensures bound { WritesAtMost result from.now }
+    ensures bytes { WriteAppends (W.contents inner.old) (W.contents inner.new) result from.now }
+    ensures cause { HasCause faults.old faults.new result }
+    ensures nothing { TakesSome faults.old faults.new from.now result }
+{
+    'tries: for _ in 0..u64::MAX {
+        match inner.write(from) {
+            Ok(count) if count > 0 || from.is_empty() => return Ok(count),
+            Err(fault) if fault.kind() == ErrorKind::Interrupted => {
+                *faults = faults.saturating_add(1);
+            }
+            Ok(_) | Err(_) => break 'tries,
+        }
+    }
+    *faults = faults.saturating_add(1);
+    Err(Failed)
 }

@@ -1,8 +1,11 @@
 use crate::{
-    Clock, Failed, MemClock, MemPlaces, MemSink, MemSource, PlaceFault, Places, Sink, Source,
-    StdClock, StdPlaces, StdSink, StdSource,
+    Acceptor, Clock, Failed, Gate, MemAcceptor, MemClock, MemLink, MemPlaces, MemSink, MemSource,
+    Open, PlaceFault, Places, Sink, Source, StdClock, StdPlaces, StdSink, StdSource, UnixAcceptor,
+    UnixLink,
 };
+use std::alloc::Global;
 use std::fs;
+use std::os::unix::net::{UnixListener, UnixStream};
 use std::test::Fail;
 
 #[test]
@@ -81,5 +84,50 @@ fn the_real_versions_pass_bytes_and_faults_on(rt: HostRuntime) -> Result<(), Fai
     );
     let mut clock = StdClock::new(&rt);
     assert!(rt; clock.now() > 1_700_000_000);
+    Ok(())
+}
+
+fn mem_link(alloc: Global, text: &[u8]) -> Result<MemLink, Fail> {
+    let source = MemSource::new(text.to_vec(alloc)?, 8, Vec::new(alloc));
+    let mut sink = MemSink::new(alloc, 8, Vec::new(alloc));
+    sink.reserve(8)?;
+    Ok(MemLink::new(source, sink))
+}
+
+#[test]
+fn connections_in_memory_come_in_order(rt: HostRuntime) -> Result<(), Fail> {
+    let alloc = rt.alloc();
+    let links = vec![in alloc; mem_link(alloc, b"one")?, mem_link(alloc, b"two")?]?;
+    let mut acceptor = MemAcceptor::new(links, vec![in alloc; 1]?);
+    let mut link = acceptor.accept()?;
+    assert!(rt; acceptor.accept().is_err());
+    let mut piece = [0; 3];
+    assert_eq!(rt; link.read(&mut piece), Ok(3));
+    assert_eq!(rt; piece, *b"one");
+    assert_eq!(rt; link.write(b"reply"), Ok(5));
+    assert!(rt; link.sink().bytes() == b"reply".as_slice());
+    let mut link = acceptor.accept()?;
+    assert_eq!(rt; link.read(&mut piece), Ok(3));
+    assert_eq!(rt; piece, *b"two");
+    assert!(rt; acceptor.accept().is_err());
+    Open.hold(&rt, 0, 0);
+    Ok(())
+}
+
+#[test]
+fn a_socket_passes_bytes_and_the_end_on(rt: HostRuntime) -> Result<(), Fail> {
+    let _ = fs::remove_file(&rt, "socket");
+    let mut acceptor = UnixAcceptor::new(UnixListener::bind(&rt, "socket")?);
+    let mut client = UnixLink::new(UnixStream::connect(&rt, "socket")?);
+    let mut link = acceptor.accept()?;
+    let mut piece = [0; 8];
+    assert_eq!(rt; client.write(b"ask"), Ok(3));
+    assert_eq!(rt; link.read(&mut piece), Ok(3));
+    assert_eq!(rt; link.write(b"reply"), Ok(5));
+    drop(link);
+    assert_eq!(rt; client.read(&mut piece), Ok(5));
+    assert_eq!(rt; client.read(&mut piece), Ok(0));
+    assert_eq!(rt; client.write(b"more"), Err(Failed));
+    fs::remove_file(&rt, "socket")?;
     Ok(())
 }

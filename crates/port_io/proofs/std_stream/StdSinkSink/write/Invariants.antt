@@ -1,8 +1,0 @@
-use Rattle.std.proofs.Common.{◌≤◌}
-use Rattle.std.specs.Io.KnownBytes.{Keeps}
-use Rattle.port_io.proofs.std_stream.StdSinkSink.write.Given as goal
-
-abbrev pub invariant-tries : goal.invariant-tries
-invariant-tries g l =
-    (l.initial.self.faults ≤ l.self.faults)
-    × Keeps (g.W.Write.contents l.initial.self.inner) (g.W.Write.contents l.self.inner)
