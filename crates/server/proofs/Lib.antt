@@ -1,0 +1,9 @@
+pub mod CounterSteps
+pub mod Turns
+pub mod Gathers
+pub mod PlacesMade
+pub mod Missing
+pub mod Faults
+pub mod Finals
+pub mod Sorting
+pub mod Results
