@@ -1,12 +1,10 @@
 -- What a caller was told, as the reply to its entry.
-use Rattle.std.proofs.Common.{◌≡◌, List, length}
+use Rattle.std.proofs.Common.{List}
 use Rattle.channel_map.specs.declared.edge.Edge.{Edge}
-use Rattle.one_history.specs.declared.entry.Entry.{Entry}
 use Rattle.one_history.specs.declared.entry.Told.{Told}
-use Rattle.askrene_command.specs.declared.command.Command.{Command}
 use Rattle.askrene_command.specs.declared.reply.EventReply.{EventReply}
 use Rattle.rpc_lines.specs.Reply.{Content}
-use Rattle.session.specs.Answers.{Answers, AnswersReply, AnswersTold, IsToldAfter}
+use Rattle.session.specs.Answers.{Answers, AnswersReply, AnswersTold}
 
 -- an answer to the reply answers whichever entry was told it
 pub answers_told : (channels local : List Edge) (told : Told EventReply) (content : Content)

@@ -1,3 +1,4 @@
+pub mod DeskCommits
 pub mod Commits
 pub mod Complete
 pub mod Cuts

@@ -18,6 +18,10 @@ pub record CallerIdentity : Type 0 where
 abbrev pub only_caller : CallerIdentity
 only_caller = record { number = 0; is_alone = true }
 
+-- a caller among others
+abbrev pub one_of_many : ℕ → CallerIdentity
+one_of_many number = record { number = number; is_alone = false }
+
 abbrev pub MayBeBetween : Bool → ℕ → List (Entry Command) → Type 0
 MayBeBetween true number between = between ≡ []
 MayBeBetween false number between = All (λ e. e.caller ≢ number) between

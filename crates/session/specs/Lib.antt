@@ -1,5 +1,7 @@
+pub mod Among
 pub mod Answers
 pub mod Caller
+pub mod Ended
 pub mod Line
 pub mod Loop
 pub mod Outcome

@@ -22,6 +22,7 @@ pub fn serve_lines<H: Caller, A: Answerer, W: Wire, C: Clock>(
     clock: &mut C,
 ) -> SessionEnd
     requires allowed { Limits.LINES_MAX ≤ H.commands_left caller.old }
+    requires ready { H.ready caller.old }
     ensures session { IsToldSession (A.answers answerer.now) (H.who caller.old) result (record {
       input = W.left wire.old;
       rest = W.left wire.new;
@@ -33,6 +34,7 @@ pub fn serve_lines<H: Caller, A: Answerer, W: Wire, C: Clock>(
     ensures read_fault { result ≡ SessionEnd.ReadFault → Rose (W.read_faults wire.old) (W.read_faults wire.new) }
     ensures write_fault { result ≡ SessionEnd.WriteFault → Rose (W.write_faults wire.old) (W.write_faults wire.new) }
     ensures reference { H.reference caller.new ≡ H.reference caller.old }
+    ensures goes_on { H.goes_on caller.old caller.new }
     ensures references { W.references wire.new ≡ W.references wire.old }
 {
     let Ok(mut lines) = Lines::new(alloc) else {

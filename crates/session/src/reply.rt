@@ -27,6 +27,7 @@ pub fn serve_line<H: Caller, A: Answerer, C: Clock>(
     clock: &mut C,
 ) -> Result<Vec<u8>, NoMemory>
     requires allowed { 0 < H.commands_left caller.old }
+    requires ready { H.ready caller.old }
     ensures served { IfOk result (λ text. LineOutcome (A.answers answerer.now) (H.who caller.old) (meaning_of line.now)
         (record { log = H.seen caller.old; clock = C.moments clock.old }) text.items
         (record { log = H.seen caller.new; clock = C.moments clock.new })) }
@@ -36,6 +37,8 @@ pub fn serve_line<H: Caller, A: Answerer, C: Clock>(
     ensures who { H.who caller.new ≡ H.who caller.old }
     ensures counted { H.commands_left caller.old ≤ H.commands_left caller.new + 1 }
     ensures reference { H.reference caller.new ≡ H.reference caller.old }
+    ensures ready { H.ready caller.new }
+    ensures goes_on { H.goes_on caller.old caller.new }
 {
     match read_line(alloc, line) {
         LineRead::Blank => Ok(Vec::new(alloc)),
@@ -60,6 +63,7 @@ fn serve_command<H: Caller, A: Answerer, C: Clock>(
 ) -> Result<Vec<u8>, NoMemory>
     requires good { IsGoodCommand command }
     requires allowed { 0 < H.commands_left caller.old }
+    requires ready { H.ready caller.old }
     ensures served { IfOk result (λ text. CommandOutcome (A.answers answerer.now) (H.who caller.old) id command
         (record { log = H.seen caller.old; clock = C.moments clock.old }) text.items
         (record { log = H.seen caller.new; clock = C.moments clock.new })) }
@@ -69,6 +73,8 @@ fn serve_command<H: Caller, A: Answerer, C: Clock>(
     ensures who { H.who caller.new ≡ H.who caller.old }
     ensures counted { H.commands_left caller.old ≤ H.commands_left caller.new + 1 }
     ensures reference { H.reference caller.new ≡ H.reference caller.old }
+    ensures ready { H.ready caller.new }
+    ensures goes_on { H.goes_on caller.old caller.new }
 {
     let moment = clock.now();
     let committed = caller.commit(moment, command);

@@ -25,6 +25,7 @@ pub fn serve_next<H: Caller, A: Answerer, W: Wire, C: Clock>(
     clock: &mut C,
 ) -> Option<SessionEnd>
     requires allowed { 0 < H.commands_left caller.old }
+    requires ready { H.ready caller.old }
     ensures outcome { TurnOutcome (A.answers answerer.now) (H.who caller.old) result
         (record { lines = lines.old; left = W.left wire.old; written = W.written wire.old; state = record { log = H.seen caller.old; clock = C.moments clock.old } })
         (record { lines = lines.new; left = W.left wire.new; written = W.written wire.new; state = record { log = H.seen caller.new; clock = C.moments clock.new } }) }
@@ -36,6 +37,8 @@ pub fn serve_next<H: Caller, A: Answerer, W: Wire, C: Clock>(
     ensures who { H.who caller.new ≡ H.who caller.old }
     ensures counted { H.commands_left caller.old ≤ H.commands_left caller.new + 1 }
     ensures reference { H.reference caller.new ≡ H.reference caller.old }
+    ensures ready { H.ready caller.new }
+    ensures goes_on { H.goes_on caller.old caller.new }
     ensures references { W.references wire.new ≡ W.references wire.old }
 {
     match wire.next_line(lines) {

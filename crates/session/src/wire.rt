@@ -74,10 +74,11 @@ impl<'a, I: Source, O: Sink> Wire for Pair<'a, I, O> {
 
 // Cuts one more line off a source.
 #[tactic(auto, using(crate::proofs::Cuts::cut_finds, crate::proofs::Cuts::source_is_kept))]
-fn next_of<I: Source>(lines: &mut Lines, input: &mut I) -> Result<Cut, ReadFault>
+pub(crate) fn next_of<I: Source>(lines: &mut Lines, input: &mut I) -> Result<Cut, ReadFault>
     ensures found { CutFinds lines.old (I.left input.old) result lines.new (I.left input.new) }
     ensures source { KeepsSource lines.old (I.left input.old) lines.new (I.left input.new) }
     ensures cause { HasCause (I.read_faults input.old) (I.read_faults input.new) result }
+    ensures beside { I.beside_reading input.new ≡ I.beside_reading input.old }
 {
     lines.next(input)
 }

@@ -13,4 +13,6 @@ invariant-lines g l =
     × (g.W.Wire.read_faults l.initial.wire ≤ g.W.Wire.read_faults l.wire)
     × (g.W.Wire.write_faults l.initial.wire ≤ g.W.Wire.write_faults l.wire)
     × (g.H.Caller.reference l.caller ≡ g.H.Caller.reference l.initial.caller)
+    × g.H.Caller.ready l.caller
+    × g.H.Caller.goes_on l.initial.caller l.caller
     × (g.W.Wire.references l.wire ≡ g.W.Wire.references l.initial.wire)
