@@ -6,6 +6,9 @@ use Rattle.port_io.specs.declared.session_end.SessionEnd.TheVariants as Session
 use Rattle.check_command.specs.declared.end.CheckEnd.{CheckEnd}
 use Rattle.check_command.specs.declared.end.CheckEnd.TheVariants as Checks
 use Rattle.check_command.specs.declared.command.TheConstants.{TEXT_MAX}
+use Rattle.gen_command.specs.declared.end.GenEnd.{GenEnd}
+use Rattle.gen_command.specs.declared.end.GenEnd.TheVariants as Gen
+use Rattle.gen_command.specs.declared.size.Size.{Size}
 use Rattle.session.specs.Answers.{Answers}
 use Rattle.session.specs.Caller.{only_caller}
 use Rattle.session.specs.Outcome.{SessionState}
@@ -19,9 +22,9 @@ use Rattle.channel_map.specs.declared.fault.MapFault.TheVariants as Fault
 use Rattle.channel_map.specs.Reading.{Reading, map_reading, local_reading, IsMapFault}
 use Rattle.askrened.specs.Form.{Bytes}
 use Rattle.askrened.specs.Load.{Files, Reader, IsAccepted, IsGood, IsGoodFile, IsKnownGood, IsLoadedAs, IsFaultOf, IsRefusedFor, IsLoadFault, TellsFiles}
-use Rattle.askrened.specs.Run.{RunSpan, IsServing, IsServed, IsAsking, IsAsk, AskEndsWell, CheckEndsWell, IsCheckable}
+use Rattle.askrened.specs.Run.{RunSpan, IsServing, IsServed, IsAsking, IsAsk, AskEndsWell, CheckEndsWell, GenEndsWell, IsCheckable, IsGenOf, IsGenerating}
 use Rattle.askrened.proofs.Loads.{loaded_is_good}
-use Rattle.askrened.specs.Status.{session_status, check_status}
+use Rattle.askrened.specs.Status.{session_status, check_status, gen_status}
 
 -- no memory for the journal
 pub no_session : (channels locals : List Edge) (input output clock : Option (List ℕ))
@@ -85,6 +88,32 @@ check_loads_nothing Checks.NoMemory local fault = λ same. cc
 check_loads_nothing Checks.ReadFault local fault = λ same. cc
 check_loads_nothing Checks.WriteFault local fault = λ same. cc
 check_loads_nothing Checks.Long local fault = λ same. cc
+
+-- the status of a workload
+pub gen_is_generating : (end : GenEnd) (span : RunSpan) (size : Size) → IsGenOf end size span → IsGenerating (gen_status end) span size
+gen_is_generating Gen.Done span size is = is
+gen_is_generating Gen.WriteFault span size is = is
+gen_is_generating Gen.NoMemory span size is = is
+
+pub gen_ends_well : (end : GenEnd) (Writes : Type 0) → (end ≡ Gen.WriteFault → Writes) → (Writes → ⊥) → GenEndsWell (gen_status end)
+gen_ends_well Gen.Done Writes writes no_write = tt
+gen_ends_well Gen.NoMemory Writes writes no_write = tt
+gen_ends_well Gen.WriteFault Writes writes no_write = no_write (writes refl)
+
+pub gen_is_no_usage : (end : GenEnd) → gen_status end ≢ Usage
+gen_is_no_usage Gen.Done = λ same. cc
+gen_is_no_usage Gen.WriteFault = λ same. cc
+gen_is_no_usage Gen.NoMemory = λ same. cc
+
+pub gen_reads_nothing : (end : GenEnd) → gen_status end ≢ ReadFault
+gen_reads_nothing Gen.Done = λ same. cc
+gen_reads_nothing Gen.WriteFault = λ same. cc
+gen_reads_nothing Gen.NoMemory = λ same. cc
+
+pub gen_loads_nothing : (end : GenEnd) (local : Bool) (fault : MapFault) → gen_status end ≢ MapRefused local fault
+gen_loads_nothing Gen.Done local fault = λ same. cc
+gen_loads_nothing Gen.WriteFault local fault = λ same. cc
+gen_loads_nothing Gen.NoMemory local fault = λ same. cc
 
 -- a session over the files that were loaded
 served_asks : (files : Files) (map local : Option Bytes) (channels locals : List Edge) (status : Status) (span : RunSpan) → IsServed channels locals status span

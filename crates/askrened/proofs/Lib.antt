@@ -2,3 +2,6 @@ mod Asking
 mod Ends
 mod Loads
 mod Spelled
+mod Numbers
+mod PlainWords
+mod GenWords

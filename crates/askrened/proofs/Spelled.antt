@@ -1,24 +1,11 @@
 -- Words as the help spells them are taken, and ask for what they spell.
-use Rattle.std.proofs.Common.{◌≡◌, ◌≢◌, ◌==◌, ℕ, List, [], ◌∷◌, Some, None, false, refl, sym, subst, ◌∙◌, codes, rules}
-use Rattle.std.specs.Prelude.{bytes_eq}
-use Rattle.clap.specs.Lexer.{long_of, short_of}
+use Rattle.std.proofs.Common.{◌≡◌, ◌==◌, ℕ, List, [], ◌∷◌, Some, None, false, refl, sym, subst, ◌∙◌, codes}
 use Rattle.clap.proofs.OnLiterals.{clap_on_literals}
-use Rattle.askrened.specs.Form.{Invocation, Bytes, invocation_of, ask_with, check_alone, AreRefused}
-use Rattle.askrened.proofs.Asking.{refused_asks_none}
+use Rattle.askrened.specs.Form.{Invocation, Bytes, invocation_of, ask_with, check_alone, gen_with, AreRefused}
 use Rattle.askrened.specs.Words.{IsPlain, spelling_of}
-
--- a word that doesn't begin with a dash is no flag
-no_dash : (x : ℕ) → x ≢ 45 → (x == 45) ≡ false
-no_dash x other = search (rules, other)
-
-no_long : (x : ℕ) (rest : List ℕ) → (x == 45) ≡ false → long_of (x ∷ rest) ≡ None
-no_long x rest e = rw e refl
-
-no_short : (x : ℕ) (rest : List ℕ) → (x == 45) ≡ false → short_of (x ∷ rest) ≡ None
-no_short x rest e = rw e refl
-
-no_dashes : (x : ℕ) (rest : List ℕ) → (x == 45) ≡ false → bytes_eq (x ∷ rest) (codes "--") ≡ false
-no_dashes x rest e = rw e refl
+use Rattle.askrened.proofs.Asking.{refused_asks_none}
+use Rattle.askrened.proofs.GenWords.{spelled_gen}
+use Rattle.askrened.proofs.PlainWords.{no_dash, no_long, no_short, no_dashes}
 
 -- each choice of options
 check_asked : invocation_of (codes "check" ∷ []) ≡ Some check_alone
@@ -44,6 +31,7 @@ both_asked x xs y ys e f = simp (no_long x xs e, no_short x xs e, no_dashes x xs
 
 pub spelled_asked : (asked : Invocation) → IsPlain asked → invocation_of (spelling_of asked) ≡ Some asked
 spelled_asked check_alone plain = check_asked
+spelled_asked (gen_with size) plain = spelled_gen size plain.0 plain.1
 spelled_asked (ask_with None None) plain = bare_asked
 spelled_asked (ask_with (Some []) local) plain = absurd plain.0
 spelled_asked (ask_with (Some (x ∷ xs)) None) plain = map_asked x xs (no_dash x plain.0)

@@ -1,10 +1,16 @@
 -- The form of the command line: the program's commands with their options. What a list of words means is what `clap` finds
 -- in it by this form.
-use Rattle.std.specs.Prelude.{◌≢◌, ℕ, List, [], ◌∷◌, codes, bytes_eq, Option, Some, None, true, if◌then◌else◌, ⊤}
+use Rattle.std.specs.Prelude.{◌≢◌, ℕ, List, [], ◌∷◌, codes, bytes_eq, ◌^◌, ◌-◌, option_map, option_and_then, Option, Some, None, true, false, if◌then◌else◌, ⊤}
+use Rattle.std.specs.Str.Parse.{digits_value, without_leading_plus}
+use Rattle.clap.specs.declared.builder.value_parser.ValueParser.TheVariants as vp
+use Rattle.clap.specs.ValueTests.{accepts}
 use Rattle.clap.specs.Walk.{Row, Rule, first_of}
 use Rattle.clap.specs.Simple.{App, new_app, new_rule, on_top, with_rule, with_subcommand, subcommand_of}
 use Rattle.clap.specs.Faults.{fault_of}
 use Rattle.clap.specs.Kinds.{Kinds}
+use Rattle.workload.specs.declared.limits.TheConstants.{NODES_MIN, NODES_MAX, CHANNELS_MAX, ASKS_MAX}
+use Rattle.gen_command.specs.declared.size.Size.{Size}
+use Rattle.gen_command.specs.Size.{size_of}
 
 -- the bytes of a word, or of a file
 abbrev pub Bytes : Type 0
@@ -22,15 +28,32 @@ ask_form = with_rule (with_rule (new_app (codes "ask")) (file_option (codes "map
 abbrev pub check_form : App
 check_form = new_app (codes "check")
 
--- The words after the program's name: one of the two commands, with its options in any order, each at most once. There is no
--- flag and no command for help, and no flag for the version.
-abbrev pub form : App
-form = with_subcommand (with_subcommand (on_top (λ shape. record shape {
+-- a whole number from `low` to `high`, by its place among the words
+abbrev pub number_argument : Bytes → ℕ → ℕ → Rule
+number_argument name low high = record (new_rule name) { required = true; parser = Some (vp.Unsigned low high) }
+
+-- `gen NUMBER NODES CHANNELS ASKS`
+abbrev pub gen_form : App
+gen_form =
+    with_rule (with_rule (with_rule (with_rule (new_app (codes "gen"))
+    (number_argument (codes "NUMBER") 0 (2 ^ 64 - 1)))
+    (number_argument (codes "NODES") NODES_MIN NODES_MAX))
+    (number_argument (codes "CHANNELS") 0 CHANNELS_MAX))
+    (number_argument (codes "ASKS") 0 ASKS_MAX)
+
+-- The words of the commands that read the input: `ask` or `check`, with its options in any order, each at most once. There is
+-- no flag and no command for help, and no flag for the version.
+abbrev pub input_form : App
+input_form = with_subcommand (with_subcommand (on_top (λ shape. record shape {
   no_binary_name = true;
   disable_help_flag = true;
   disable_help_subcommand = true;
   subcommand_required = true;
 }) (new_app (codes "askrened"))) ask_form.top) check_form.top
+
+-- the words after the program's name: one of those commands, or `gen`
+abbrev pub form : App
+form = with_subcommand input_form gen_form.top
 
 -- the form refuses the words: there are kinds of error, and `clap` answers one of them, unless it is out of memory
 abbrev pub AreRefused : List Bytes → Type 0
@@ -42,6 +65,27 @@ pub data Invocation : Type 0 where
   ask_with : Option Bytes → Option Bytes → Invocation
   -- to check a certificate
   check_alone : Invocation
+  -- to serve a workload of this size
+  gen_with : Size → Invocation
+
+-- the number below 2 ^ 64 that the decimal digits of a text spell; a plus may come before them
+unfoldable pub number_in : Bytes → Option ℕ
+number_in text = if accepts false (vp.Unsigned 0 (2 ^ 64 - 1)) text then Some (digits_value 10 (without_leading_plus text)) else None
+
+-- the number of an argument
+abbrev pub number_at : Bytes → List Row → Option ℕ
+number_at name rows = option_and_then number_in (first_of name rows)
+
+-- the size that four numbers give
+abbrev pub size_from : Option ℕ → Option ℕ → Option ℕ → Option ℕ → Option Size
+size_from (Some number) (Some nodes) (Some channels) (Some asks) = size_of number nodes channels asks
+size_from _ _ _ _ = None
+
+-- the size that the arguments give
+abbrev pub size_in : List Row → Option Size
+size_in rows =
+    size_from (number_at (codes "NUMBER") rows) (number_at (codes "NODES") rows)
+    (number_at (codes "CHANNELS") rows) (number_at (codes "ASKS") rows)
 
 -- what a command with its options asks for
 abbrev pub invocation_in : Option (Bytes × List Row) → Option Invocation
@@ -49,6 +93,7 @@ invocation_in None = None
 invocation_in (Some found) =
     if bytes_eq found.0 (codes "ask") then Some (ask_with (first_of (codes "map") found.1) (first_of (codes "local") found.1))
     else if bytes_eq found.0 (codes "check") then Some check_alone
+    else if bytes_eq found.0 (codes "gen") then option_map gen_with (size_in found.1)
     else None
 
 -- what is found counts if there is no error
@@ -69,3 +114,8 @@ IfAsks _ Holds = ⊤
 abbrev pub IfChecks : Option Invocation → Type 0 → Type 0
 IfChecks (Some check_alone) Holds = Holds
 IfChecks _ Holds = ⊤
+
+-- if the words ask for a workload, this holds of its size
+abbrev pub IfGenerates : Option Invocation → (Size → Type 0) → Type 0
+IfGenerates (Some (gen_with size)) Holds = Holds size
+IfGenerates _ Holds = ⊤

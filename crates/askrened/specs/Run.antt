@@ -10,6 +10,10 @@ use Rattle.check_command.specs.declared.end.CheckEnd.{CheckEnd}
 use Rattle.check_command.specs.declared.end.CheckEnd.TheVariants as Checks
 use Rattle.check_command.specs.declared.command.TheConstants.{TEXT_MAX}
 use Rattle.check_command.specs.Check.{IsCheck}
+use Rattle.gen_command.specs.declared.end.GenEnd.{GenEnd}
+use Rattle.gen_command.specs.declared.end.GenEnd.TheVariants as Gen
+use Rattle.gen_command.specs.declared.size.Size.{Size}
+use Rattle.gen_command.specs.Gen.{IsGen}
 use Rattle.session.specs.Answers.{Answers}
 use Rattle.session.specs.Caller.{only_caller}
 use Rattle.session.specs.Session.{IsToldSession}
@@ -112,3 +116,30 @@ CheckEndsWell Long = ⊥
 -- an input that a check reads whole
 abbrev pub IsCheckable : List ℕ → Type 0
 IsCheckable input = length input ≤ TEXT_MAX
+
+abbrev pub IsGenOf : GenEnd → Size → RunSpan → Type 0
+IsGenOf end size span = IsGen end size span.clock span.ticked span.output span.written
+
+-- what a status of `gen` says; it has no other status
+abbrev pub IsGenerating : Status → RunSpan → Size → Type 0
+IsGenerating Ok span size = IsGenOf Gen.Done size span
+IsGenerating WriteFault span size = IsGenOf Gen.WriteFault size span
+IsGenerating NoMemory span size = IsGenOf Gen.NoMemory size span
+IsGenerating Usage span size = ⊥
+IsGenerating (MapRefused local fault) span size = ⊥
+IsGenerating ReadFault span size = ⊥
+IsGenerating (CheckNo line readable) span size = ⊥
+IsGenerating SessionFull span size = ⊥
+IsGenerating Long span size = ⊥
+
+-- nothing outside the program kept a workload from its summary
+abbrev pub GenEndsWell : Status → Type 0
+GenEndsWell Ok = ⊤
+GenEndsWell NoMemory = ⊤
+GenEndsWell Usage = ⊥
+GenEndsWell (MapRefused local fault) = ⊥
+GenEndsWell ReadFault = ⊥
+GenEndsWell WriteFault = ⊥
+GenEndsWell (CheckNo line readable) = ⊥
+GenEndsWell SessionFull = ⊥
+GenEndsWell Long = ⊥

@@ -4,6 +4,8 @@ use Rattle.port_io.specs.declared.session_end.SessionEnd.{SessionEnd}
 use Rattle.port_io.specs.declared.session_end.SessionEnd.TheVariants as Session
 use Rattle.check_command.specs.declared.end.CheckEnd.{CheckEnd}
 use Rattle.check_command.specs.declared.end.CheckEnd.TheVariants as Check
+use Rattle.gen_command.specs.declared.end.GenEnd.{GenEnd}
+use Rattle.gen_command.specs.declared.end.GenEnd.TheVariants as Gen
 use Rattle.askrened.specs.declared.status.Status.{Status}
 use Rattle.askrened.specs.declared.status.Status.TheVariants.{Ok, Usage, MapRefused, ReadFault, WriteFault, NoMemory, CheckNo, SessionFull, Long}
 
@@ -35,3 +37,9 @@ check_status Check.Long = Long
 check_status Check.ReadFault = ReadFault
 check_status Check.WriteFault = WriteFault
 check_status Check.NoMemory = NoMemory
+
+-- the status of a workload's end
+abbrev pub gen_status : GenEnd → Status
+gen_status Gen.Done = Ok
+gen_status Gen.WriteFault = WriteFault
+gen_status Gen.NoMemory = NoMemory

@@ -7,6 +7,7 @@ const HELP: &str = "askrened: a route service for Lightning payers
 
 askrened ask [--map FILE] [--local FILE]    serves the request lines of standard input
 askrened check                              checks the certificate on standard input
+askrened gen NUMBER NODES CHANNELS ASKS     serves requests that it makes itself, and adds up the replies
 askrened COMMAND --help                     tells more of a command
 askrened --version                          tells the version
 
@@ -38,6 +39,20 @@ Exit statuses: 0 the certificate shows what it claims, 2 the words are no comman
 6 out of memory, 7 the certificate does not show what it claims, 9 too long.
 ";
 
+const GEN_HELP: &str = "askrened gen NUMBER NODES CHANNELS ASKS
+
+Makes a map of NODES nodes and CHANNELS channels and ASKS requests for routes, serves the requests in memory, and writes
+one line: asks A routed R refused F parts P amount_msat M fee_msat E. A is the requests, R the replies with a result, F the
+replies with an error, P the routes of all results, M what they deliver, and E their fees. The same words give the same line.
+
+NUMBER      a whole number below 2^64, from which all else is drawn
+NODES       2 to 65536
+CHANNELS    0 to 131072
+ASKS        0 to 10000
+
+Exit statuses: 0 all requests were answered, 2 the words are no command, 5 the write failed, 6 out of memory.
+";
+
 /// The text that these words alone ask for, if they ask for help or for the version.
 pub fn help_for(words: &[String]) -> Option<&'static str> {
     match words {
@@ -59,6 +74,7 @@ fn command_help(command: &str) -> Option<&'static str> {
     match command {
         "ask" => Some(ASK_HELP),
         "check" => Some(CHECK_HELP),
+        "gen" => Some(GEN_HELP),
         _ => None,
     }
 }

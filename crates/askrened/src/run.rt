@@ -4,9 +4,10 @@ ghost use Rattle.channel_map.specs.Reading.{map_reading, local_reading};
 ghost use Rattle.channel_map.specs.declared.fault.MapFault.{MapFault};
 ghost use Rattle.port_io.specs.Faults.{Rose};
 ghost use Rattle.session.specs.Session.{IsServable};
-ghost use Rattle.askrened.specs.Form.{Invocation, Bytes, invocation_of, IfAsks, IfChecks, AreRefused};
+ghost use Rattle.gen_command.specs.Size.{IsSize};
+ghost use Rattle.askrened.specs.Form.{Invocation, Bytes, invocation_of, IfAsks, IfChecks, IfGenerates, AreRefused};
 ghost use Rattle.askrened.specs.Load.{IsKnownGood, TellsFiles};
-ghost use Rattle.askrened.specs.Run.{IsAsk, IsServed, IsChecking, AskEndsWell, CheckEndsWell, IsCheckable};
+ghost use Rattle.askrened.specs.Run.{IsAsk, IsServed, IsChecking, IsGenerating, AskEndsWell, CheckEndsWell, GenEndsWell, IsCheckable};
 ghost use Rattle.askrened.specs.Words.{IsPlain, spelling_of};
 
 use crate::load::load;
@@ -16,15 +17,17 @@ use askrene_state::State;
 use channel_map::{ChannelMap, Local};
 use check_command::check;
 use flow_solver::Keeping;
+use gen_command::{Size, generate};
 use one_history::Journal;
 use port_io::{Clock, Places, Sink, Source};
 use session::ask_loop;
 use std::alloc::Global;
 
 /// Runs the command that the words after the program's name ask for. `ask` loads the map and the local file, and serves the
-/// lines of the input from an empty history on, with routes over these files; `check` writes one line on the certificate of the input. The files stay as
-/// they are.
-#[tactic(auto, using(crate::proofs::Asking::refused_asks_none, crate::proofs::Asking::if_asks, crate::proofs::Asking::if_checks, crate::proofs::Asking::asks_checks, crate::proofs::Asking::checks_asks, crate::proofs::Asking::if_asks_all, crate::proofs::Asking::if_checks_all, crate::proofs::Ends::no_memory_is_ask, crate::proofs::Spelled::plain_is_taken))]
+/// lines of the input from an empty history on, with routes over these files; `check` writes one line on the certificate of
+/// the input; `gen` serves a workload in memory, and writes one line with the totals of its replies. The files stay as they
+/// are.
+#[tactic(auto, using(crate::proofs::Asking::refused_asks_none, crate::proofs::Asking::if_asks, crate::proofs::Asking::if_checks, crate::proofs::Asking::asks_checks, crate::proofs::Asking::checks_asks, crate::proofs::Asking::if_asks_all, crate::proofs::Asking::if_checks_all, crate::proofs::Asking::if_generates, crate::proofs::Asking::asks_generates, crate::proofs::Asking::checks_generates, crate::proofs::Asking::generates_asks, crate::proofs::Asking::generates_checks, crate::proofs::Asking::if_generates_all, crate::proofs::Ends::no_memory_is_ask, crate::proofs::Spelled::plain_is_taken))]
 pub fn run<P: Places, I: Source, O: Sink, C: Clock>(
     alloc: Global,
     words: &[String],
@@ -71,6 +74,18 @@ pub fn run<P: Places, I: Source, O: Sink, C: Clock>(
         → (Rose (I.read_faults input.old) (I.read_faults input.new) → ⊥)
         → (Rose (O.write_faults output.old) (O.write_faults output.new) → ⊥) → CheckEndsWell result)) }
     ensures check_leaves { IfChecks (invocation_of (map string_bytes words.now)) ((places.new ≡ places.old) × (clock.new ≡ clock.old)) }
+    ensures gen_summary { IfGenerates (invocation_of (map string_bytes words.now)) (IsGenerating result (record {
+      input = I.left input.old;
+      rest = I.left input.new;
+      output = O.written output.old;
+      written = O.written output.new;
+      clock = C.moments clock.old;
+      ticked = C.moments clock.new;
+    })) }
+    ensures gen_complete { IfGenerates (invocation_of (map string_bytes words.now)) (λ size.
+        (Rose (O.write_faults output.old) (O.write_faults output.new) → ⊥) → GenEndsWell result) }
+    ensures gen_leaves { IfGenerates (invocation_of (map string_bytes words.now)) (λ size.
+        (places.new ≡ places.old) × (input.new ≡ input.old)) }
     ensures read_fault { result ≡ Status.ReadFault → Rose (I.read_faults input.old) (I.read_faults input.new)
         ⊎ Rose (P.place_faults places.old) (P.place_faults places.new) }
     ensures write_fault { result ≡ Status.WriteFault
@@ -82,6 +97,7 @@ pub fn run<P: Places, I: Source, O: Sink, C: Clock>(
         Err(WordsFault::NoMemory) => Status::NoMemory,
         Ok(Task::Ask { map, local }) => ask(alloc, map, local, places, input, output, clock),
         Ok(Task::Check) => check_input(alloc, input, output),
+        Ok(Task::Gen { size }) => serve_workload(alloc, size, output, clock),
     }
 }
 
@@ -207,4 +223,30 @@ fn check_input<I: Source, O: Sink>(alloc: Global, input: &mut I, output: &mut O)
     ensures write_fault { result ≡ Status.WriteFault → Rose (O.write_faults output.old) (O.write_faults output.new) }
 {
     Status::from(check(alloc, input, output))
+}
+
+// Serves a workload in memory, and writes the totals of its replies. Neither the input nor a file is read.
+#[tactic(auto, using(crate::proofs::Ends::gen_is_generating, crate::proofs::Ends::gen_ends_well, crate::proofs::Ends::gen_is_no_usage, crate::proofs::Ends::gen_reads_nothing, crate::proofs::Ends::gen_loads_nothing))]
+fn serve_workload<O: Sink, C: Clock>(
+    alloc: Global,
+    size: Size,
+    output: &mut O,
+    clock: &mut C,
+) -> Status
+    requires { IsSize size }
+    ensures other { result ≢ Status.Usage }
+    ensures nothing_read { result ≢ Status.ReadFault }
+    ensures not_refused { (local : Bool) (fault : MapFault) → result ≢ Status.MapRefused local fault }
+    ensures summary { (input rest : Option (List ℕ)) → IsGenerating result (record {
+      input = input;
+      rest = rest;
+      output = O.written output.old;
+      written = O.written output.new;
+      clock = C.moments clock.old;
+      ticked = C.moments clock.new;
+    }) size }
+    ensures complete { (Rose (O.write_faults output.old) (O.write_faults output.new) → ⊥) → GenEndsWell result }
+    ensures write_fault { result ≡ Status.WriteFault → Rose (O.write_faults output.old) (O.write_faults output.new) }
+{
+    Status::from(generate(alloc, size, output, clock))
 }

@@ -3,6 +3,7 @@ ghost use Rattle.askrened.specs.Status.{code_of};
 
 use channel_map::MapFault;
 use check_command::CheckEnd;
+use gen_command::GenEnd;
 use port_io::SessionEnd;
 use std::alloc::AllocError;
 
@@ -91,6 +92,21 @@ impl From<CheckEnd> for Status {
             CheckEnd::ReadFault => Status::ReadFault,
             CheckEnd::WriteFault => Status::WriteFault,
             CheckEnd::NoMemory => Status::NoMemory,
+        }
+    }
+}
+
+impl From<GenEnd> for Status {
+    ghost use Rattle.std.specs.Prelude.{◌≡◌};
+    ghost use Rattle.askrened.specs.Status.{gen_status};
+
+    ghost from_gives = { λ end status. status ≡ gen_status end };
+
+    fn from(end: GenEnd) -> Status {
+        match end {
+            GenEnd::Done => Status::Ok,
+            GenEnd::WriteFault => Status::WriteFault,
+            GenEnd::NoMemory => Status::NoMemory,
         }
     }
 }

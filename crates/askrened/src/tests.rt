@@ -341,3 +341,60 @@ fn files_that_are_refused_end_the_run_at_once(rt: HostRuntime) -> Result<(), Fai
     assert!(rt; is_refused(alloc, &["ask", "--map", "missing"], &[], Status::ReadFault)?);
     Ok(())
 }
+
+fn is_generated(
+    alloc: Global,
+    words: &[&str],
+    writes: &[u64],
+    status: Status,
+    output: &str,
+) -> Result<bool, Fail> {
+    let mut places = MemPlaces::new(Vec::new(alloc), Vec::new(alloc));
+    let outcome = go(alloc, words, &mut places, b"", 32, &[], writes)?;
+    Ok(outcome.status == status && outcome.sink.bytes() == output.as_bytes())
+}
+
+/// Words that are no workload.
+const NO_WORKLOADS: &[&[&str]] = &[
+    &["gen"],
+    &["gen", "1", "2", "0"],
+    &["gen", "1", "2", "0", "3", "4"],
+    &["gen", "1", "1", "0", "3"],
+    &["gen", "1", "65537", "0", "3"],
+    &["gen", "1", "2", "131073", "3"],
+    &["gen", "1", "2", "0", "10001"],
+    &["gen", "18446744073709551616", "2", "0", "3"],
+    &["gen", "x", "2", "0", "3"],
+    &["gen", "1", "2", "0", "-1"],
+];
+
+#[test]
+fn workloads_are_served(rt: HostRuntime) -> Result<(), Fail> {
+    let alloc = rt.alloc();
+    let words: &[&str] = &["gen", "1", "2", "0", "3"];
+    let line = "asks 3 routed 0 refused 3 parts 0 amount_msat 0 fee_msat 0\n";
+    for words in NO_WORKLOADS {
+        assert!(rt; is_generated(alloc, words, &[], Status::Usage, "")?);
+    }
+    assert!(rt;
+        is_generated(
+            alloc,
+            &["gen", "1", "2", "0", "0"],
+            &[],
+            Status::Ok,
+            "asks 0 routed 0 refused 0 parts 0 amount_msat 0 fee_msat 0\n"
+        )?
+    );
+    assert!(rt; is_generated(alloc, words, &[0], Status::WriteFault, "")?);
+    assert!(rt;
+        is_generated(
+            alloc,
+            words,
+            &[1],
+            Status::WriteFault,
+            "asks 3 routed 0 refused 3 parts "
+        )?
+    );
+    assert!(rt; is_generated(alloc, words, &[], Status::Ok, line)?);
+    Ok(())
+}

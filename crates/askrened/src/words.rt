@@ -1,16 +1,20 @@
 //! The words of the command line, read with `clap` by one form.
-ghost use Rattle.std.specs.Prelude.{◌≡◌, ◌≢◌, Some, None, false, map, string_bytes, IfOk, IsErrOf};
-ghost use Rattle.clap.specs.Walk.{rule_of};
+ghost use Rattle.std.specs.Prelude.{◌≡◌, ◌≢◌, ◌^◌, ◌-◌, codes, Some, None, false, map, option_map, string_bytes, IfOk, IfSome, IsErrOf};
+ghost use Rattle.clap.specs.Matches.{found_of};
+ghost use Rattle.clap.specs.Walk.{rule_of, rows_of};
 ghost use Rattle.clap.specs.Simple.{app_of, subcommand_rows_of, HasMatchesOf};
 ghost use Rattle.clap.specs.Faults.{fault_of};
 ghost use Rattle.clap.specs.Kinds.{FailsBy};
 ghost use Rattle.clap.specs.declared.builder.command.Command.TheViews.{out-Command};
-ghost use Rattle.askrened.specs.Form.{Invocation, form, ask_form, check_form, file_option as file_rule, invocation_in, invocation_of, AreRefused};
-ghost use Rattle.askrened.specs.Words.{invocation_by, spelling_of, IsPlain};
+ghost use Rattle.gen_command.specs.Size.{IsSize};
+ghost use Rattle.askrened.specs.Form.{Invocation, form, input_form, ask_form, check_form, gen_form, file_option as file_rule, number_argument as number_rule, size_in, number_at, number_in, invocation_in, invocation_of, AreRefused};
+ghost use Rattle.askrened.specs.Words.{invocation_by, spelling_of, IsPlain, IsGoodTask};
 
 use clap::error::ErrorKind;
-use clap::{Arg, ArgMatches, Command, Error};
+use clap::{Arg, ArgMatches, Command, Error, value_parser};
+use gen_command::Size;
 use std::alloc::{AllocError, Global};
+use workload::{ASKS_MAX, CHANNELS_MAX, NODES_MAX, NODES_MIN};
 
 /// What the program is asked to do.
 #[derive(Clone, Copy, Debug, PartialEq, Eq)]
@@ -22,6 +26,10 @@ pub enum Task<'a> {
     },
     /// To check a certificate.
     Check,
+    /// To serve a workload of this size.
+    Gen {
+        size: Size,
+    },
 }
 
 /// Why words are not read as a task.
@@ -36,6 +44,13 @@ pub enum WordsFault {
 /// The form of the command line.
 pub fn command_line<'a>(alloc: Global) -> Result<Command<'a>, AllocError>
     ensures { IfOk result (λ command. app_of command ≡ form) }
+{
+    input_commands(alloc)?.subcommand(gen_command(alloc)?)
+}
+
+// The commands that read the input.
+fn input_commands<'a>(alloc: Global) -> Result<Command<'a>, AllocError>
+    ensures { IfOk result (λ command. app_of command ≡ input_form) }
 {
     Command::new(alloc, "askrened")
         .bin_name("askrened")?
@@ -63,6 +78,35 @@ fn check_command<'a>(alloc: Global) -> Command<'a>
     Command::new(alloc, "check")
 }
 
+fn gen_command<'a>(alloc: Global) -> Result<Command<'a>, AllocError>
+    ensures app { IfOk result (λ command. app_of command ≡ gen_form) }
+    ensures local { IfOk result (λ command. (out-Command command).has_globals ≡ false) }
+{
+    Command::new(alloc, "gen")
+        .arg(seed_argument(alloc))?
+        .arg(number_argument(alloc, "NODES", NODES_MIN, NODES_MAX))?
+        .arg(number_argument(alloc, "CHANNELS", 0, CHANNELS_MAX))?
+        .arg(number_argument(alloc, "ASKS", 0, ASKS_MAX))
+}
+
+fn seed_argument<'a>(alloc: Global) -> Arg<'a>
+    ensures rule { rule_of result ≡ number_rule (codes "NUMBER") 0 (2 ^ 64 - 1) }
+    ensures local { result.global ≡ false }
+{
+    Arg::new(alloc, "NUMBER")
+        .required(true)
+        .value_parser(value_parser!(u64))
+}
+
+fn number_argument<'a>(alloc: Global, name: &'a str, low: u32, high: u32) -> Arg<'a>
+    ensures rule { rule_of result ≡ number_rule name.entry.now low high }
+    ensures local { result.global ≡ false }
+{
+    Arg::new(alloc, name)
+        .required(true)
+        .value_parser(value_parser!(u64).range(i64::from(low)..=i64::from(high)))
+}
+
 fn file_option<'a>(alloc: Global, name: &'a str) -> Arg<'a>
     ensures rule { rule_of result ≡ file_rule name.entry.now }
     ensures local { result.global ≡ false }
@@ -79,30 +123,63 @@ pub fn matches_in<'a>(alloc: Global, words: &'a [String]) -> Result<ArgMatches<'
 }
 
 /// Reads the words after the program's name.
-#[tactic(auto, using(crate::proofs::Asking::taken_asks, crate::proofs::Asking::taken_is_asked, crate::proofs::Asking::form_is_simple))]
+#[tactic(auto, using(crate::proofs::Asking::taken_asks, crate::proofs::Asking::form_is_simple))]
 pub fn read_words<'a>(alloc: Global, words: &'a [String]) -> Result<Task<'a>, WordsFault>
     ensures asked { IfOk result (λ task. invocation_of (map string_bytes words.entry.now) ≡ Some (invocation_by task)) }
+    ensures good { IfOk result IsGoodTask }
     ensures refused { IsErrOf result WordsFault.Refused → AreRefused (map string_bytes words.entry.now) }
 {
     match matches_in(alloc, words) {
-        Ok(matches) => Ok(task_of(&matches)),
+        // Words that the form takes without a task count as out of memory.
+        Ok(matches) => task_of(&matches).ok_or(WordsFault::NoMemory),
         Err(fault) if fault.kind() == ErrorKind::OutOfMemory => Err(WordsFault::NoMemory),
         Err(_) => Err(WordsFault::Refused),
     }
 }
 
 // The task of matches that the form gives.
-fn task_of<'a>(matches: &ArgMatches<'a>) -> Task<'a>
-    requires { invocation_in (subcommand_rows_of matches.now) ≢ None }
-    ensures { invocation_in (subcommand_rows_of matches.now) ≡ Some (invocation_by result) }
+fn task_of<'a>(matches: &ArgMatches<'a>) -> Option<Task<'a>>
+    ensures task { option_map invocation_by result ≡ invocation_in (subcommand_rows_of matches.now) }
+    ensures good { IfSome result IsGoodTask }
 {
-    match matches.subcommand() {
-        Some(("ask", options)) => Task::Ask {
+    match matches.subcommand()? {
+        ("ask", options) => Some(Task::Ask {
             map: options.get_str("map"),
             local: options.get_str("local"),
-        },
-        _ => Task::Check,
+        }),
+        ("check", _) => Some(Task::Check),
+        ("gen", options) => Some(Task::Gen {
+            size: size_of(options)?,
+        }),
+        _ => None,
     }
+}
+
+// The size that the arguments of `gen` give.
+fn size_of(options: &ArgMatches) -> Option<Size>
+    ensures size { result ≡ size_in (rows_of (found_of options.now)) }
+    ensures ranges { IfSome result IsSize }
+{
+    let number = number_of(options, "NUMBER")?;
+    let nodes = number_of(options, "NODES")?;
+    let channels = number_of(options, "CHANNELS")?;
+    let asks = number_of(options, "ASKS")?;
+    Size::new(number, nodes, channels, asks)
+}
+
+#[tactic(auto, using(crate::proofs::Numbers::parsed_number, crate::proofs::Numbers::first_text))]
+fn number_of(options: &ArgMatches, name: &str) -> Option<u64>
+    ensures { result ≡ number_at name.now (rows_of (found_of options.now)) }
+{
+    let text = options.get_str(name)?;
+    read_number(text)
+}
+
+#[tactic(auto, using(crate::proofs::Numbers::parsed_number))]
+fn read_number(text: &str) -> Option<u64>
+    ensures { result ≡ number_in text.now }
+{
+    text.parse::<u64>().ok()
 }
 
 /// A law: words as the help spells them ask for what they spell.

@@ -1,0 +1,11 @@
+pub mod Draws
+pub mod Node
+pub mod Channel
+pub mod Map
+pub mod Payment
+pub mod Request
+pub mod Tokens
+pub mod Totals
+pub mod Summary
+pub mod Sink
+pub mod Laws
