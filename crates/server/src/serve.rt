@@ -1,4 +1,5 @@
 ghost use Rattle.std.specs.Prelude.{◌≡◌, ℕ, ◌≤◌, ◌+◌};
+ghost use Rattle.std.specs.Thread.{IsSync};
 ghost use Rattle.server.specs.Serving.{calls_gained};
 ghost use Rattle.server.specs.declared.limits.TheConstants.{SERVING_TURNS};
 ghost use Rattle.turn_desk.specs.declared.limits.TheConstants.{TURNS_MAX};
@@ -29,6 +30,7 @@ pub trait Serve<O: Object, L: Link, C: Clock> {
         link: &mut L,
         clock: &mut C,
     ) -> Self::End
+        requires sync { IsSync R.row }
         requires desk { pass.old.0 ≡ desk.now }
         requires draws { pass.old.1.draws + SERVING_TURNS ≤ TURNS_MAX }
         ensures limit { SERVING_TURNS ≡ 1000000 }
