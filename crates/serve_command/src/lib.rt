@@ -4,5 +4,7 @@
 
 mod line_server;
 mod served;
+#[cfg(test)]
+mod tests;
 
 pub use served::{Served, serve_all};
