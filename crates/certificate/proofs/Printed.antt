@@ -1,10 +1,11 @@
 -- What is printed is the certificate's text.
-use Rattle.std.proofs.Common.{ℕ, suc, ◌+◌, ◌<◌, ◌≤◌, ◌≡◌, List, [], ◌∷◌, ◌++◌, length, map, take, drop, get_or, sym, ap, ◌∙◌, arith, append_assoc}
+use Rattle.std.proofs.Common.{ℕ, suc, ◌+◌, ◌^◌, ◌<◌, ◌≤◌, ◌≡◌, List, [], ◌∷◌, ◌++◌, length, map, take, drop, get_or, sym, ap, ◌∙◌, arith, append_assoc}
 use Rattle.std.specs.Prelude.{decimal}
 use Rattle.std.specs.List.{concat}
 use Rattle.std.proofs.Math.Seq.{drop-cons}
 use Rattle.std.proofs.lemmas.List.{append-nil, take_more, take_all, map-append}
 use Rattle.std.proofs.lemmas.List.Folds.{concat-append}
+use Rattle.std.proofs.lemmas.Fmt.{length-decimal-le}
 use Rattle.flow_model.specs.declared.solve.Solved.{Solved}
 use Rattle.flow_model.specs.Instance.{Net, IsInstance}
 use Rattle.certificate.specs.declared.limits.TheConstants.{CERT_ARCS_MAX, CERT_NODES_MAX}
@@ -26,16 +27,14 @@ one_more line xs i d old now next l was grows =
 pub all_of : {X : Type 0} (line : X → List ℕ) (xs : List X) (i : ℕ) (old now : List ℕ) → length xs ≤ i → now ≡ old ++ concat (map line (take i xs)) → now ≡ old ++ concat (map line xs)
 all_of line xs i old now l was = was ∙ ap (λ ys. old ++ concat (map line ys)) (take_all i xs l)
 
--- one more field
-pub next_field : (numbers : List ℕ) (i : ℕ) (now next whole : List ℕ) → i < length numbers → now ++ fields (drop i numbers) ≡ whole → next ≡ now ++ (32 ∷ decimal (get_or numbers i 0)) → next ++ fields (drop (i + 1) numbers) ≡ whole
-next_field numbers i now next whole l was grows =
-    let n = get_or numbers i 0 in
-    let one : suc i ≡ i + 1 = omega arith in
-    ap (λ t. t ++ fields (drop (i + 1) numbers)) grows
-    ∙ append_assoc now (32 ∷ decimal n) (fields (drop (i + 1) numbers))
-    ∙ ap (λ k. now ++ ((32 ∷ decimal n) ++ fields (drop k numbers))) (sym one)
-    ∙ ap (λ ns. now ++ fields ns) (sym (drop-cons numbers i 0 l))
-    ∙ was
+-- one more field, before the others
+pub next_field : (numbers : List ℕ) (i j : ℕ) (written : List ℕ) → i < length numbers → j ≡ i + 1 → written ≡ 32 ∷ (decimal (get_or numbers i 0) ++ fields (drop j numbers)) → written ≡ fields (drop i numbers)
+next_field numbers i j written l next was =
+    let one : j ≡ suc i = omega (arith, next) in
+    was ∙ ap (λ k. 32 ∷ (decimal (get_or numbers i 0) ++ fields (drop k numbers))) one ∙ ap fields (sym (drop-cons numbers i 0 l))
+
+pub short_number : (n : ℕ) → n < 2 ^ 64 → length (decimal n) ≤ 20
+short_number n small = length-decimal-le 20 n (omega arith) (omega arith) small
 
 abbrev pub printed_certificate : Net → Solved → Certificate
 printed_certificate net answer = record { version = Two; net = net; answer = answer }

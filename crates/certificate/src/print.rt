@@ -1,4 +1,4 @@
-ghost use Rattle.std.specs.Prelude.{◌≡◌, ◌++◌, ◌≤◌, ◌<◌, All, IfErr, IfOk, OnOk, length, map, zip, ℕ, ◌∷◌, [], decimal};
+ghost use Rattle.std.specs.Prelude.{◌≡◌, ◌++◌, ◌≤◌, ◌<◌, ◌+◌, ◌*◌, All, IfErr, IfOk, OnOk, length, map, zip, ℕ, ◌∷◌, [], decimal, drop};
 ghost use Rattle.std.specs.List.{concat};
 ghost use Rattle.plan_base.specs.declared.amount.TheConstants.{MAX};
 ghost use Rattle.flow_model.specs.declared.instance.Arc.{Arc};
@@ -12,9 +12,12 @@ use crate::fault::CertRefusal;
 use crate::limits::{CERT_ARCS_MAX, CERT_NODES_MAX};
 use crate::version::Version;
 use flow_model::{Arc, Flow, Instance};
-use itoa::Buffer;
+use itoa::{Buffer, write_digits};
 use plan_base::NoMemory;
 use std::alloc::Global;
+
+/// The length of the longest line of six numbers, without its word.
+const ROOM: usize = 127;
 
 /// The text of a flow's certificate, in ASCII and version 2. `TooLarge` is returned if and only if the instance has more
 /// than `CERT_ARCS_MAX` arcs or `CERT_NODES_MAX` nodes.
@@ -78,12 +81,11 @@ fn flow_text(
     ensures { IfOk result (λ t. t.items ≡ Text.certificate_text (flow_certificate instance.now units.now potentials.now)) }
 {
     let mut text = Vec::new(alloc);
-    let mut digits = Buffer::new();
-    first_line(&mut text, &mut digits)?;
-    problem(&mut text, &mut digits, b"flow", instance)?;
-    load_lines(&mut text, &mut digits, instance.arcs(), units)?;
-    potential_lines(&mut text, &mut digits, potentials)?;
-    last_line(&mut text, &mut digits)?;
+    first_line(&mut text)?;
+    problem(&mut text, b"flow", instance)?;
+    load_lines(&mut text, instance.arcs(), units)?;
+    potential_lines(&mut text, potentials)?;
+    last_line(&mut text)?;
     Ok(text)
 }
 
@@ -91,35 +93,24 @@ fn cut_text(alloc: Global, instance: &Instance, side: &[bool]) -> Result<Vec<u8>
     ensures { IfOk result (λ t. t.items ≡ Text.certificate_text (cut_certificate instance.now side.now)) }
 {
     let mut text = Vec::new(alloc);
-    let mut digits = Buffer::new();
-    first_line(&mut text, &mut digits)?;
-    problem(&mut text, &mut digits, b"cut", instance)?;
-    arc_lines(&mut text, &mut digits, instance.arcs())?;
-    side_lines(&mut text, &mut digits, side)?;
-    last_line(&mut text, &mut digits)?;
+    first_line(&mut text)?;
+    problem(&mut text, b"cut", instance)?;
+    arc_lines(&mut text, instance.arcs())?;
+    side_lines(&mut text, side)?;
+    last_line(&mut text)?;
     Ok(text)
 }
 
 /// The word of the text and its version.
 #[tactic(auto, unfolding(crate::specs::Text::head_line))]
-fn first_line(text: &mut Vec<u8>, digits: &mut Buffer) -> Result<(), NoMemory>
+fn first_line(text: &mut Vec<u8>) -> Result<(), NoMemory>
     ensures { OnOk result (text.new.items ≡ text.old.items ++ Text.head_line Version.Two) }
 {
-    line(
-        text,
-        digits,
-        b"askrene-certificate",
-        &[Version::Two.number()],
-    )
+    line(text, b"askrene-certificate", &[Version::Two.number()])
 }
 
 /// The kind and the numbers of the instance.
-fn problem(
-    text: &mut Vec<u8>,
-    digits: &mut Buffer,
-    kind: &[u8],
-    instance: &Instance,
-) -> Result<(), NoMemory>
+fn problem(text: &mut Vec<u8>, kind: &[u8], instance: &Instance) -> Result<(), NoMemory>
     ensures { OnOk result (text.new.items ≡ text.old.items ++ Text.text_line kind.now (instance.now.nodes ∷ length instance.now.arcs ∷ instance.now.source ∷ instance.now.destination ∷ instance.now.demand ∷ [])) }
 {
     let nodes = u64::from(instance.nodes());
@@ -128,36 +119,29 @@ fn problem(
     let destination = u64::from(instance.destination());
     line(
         text,
-        digits,
         kind,
         &[nodes, arcs, source, destination, instance.demand()],
     )
 }
 
 /// The lines of arcs with their units.
-fn load_lines(
-    text: &mut Vec<u8>,
-    digits: &mut Buffer,
-    arcs: &[Arc],
-    units: &[u64],
-) -> Result<(), NoMemory>
+fn load_lines(text: &mut Vec<u8>, arcs: &[Arc], units: &[u64]) -> Result<(), NoMemory>
     requires { length units.now ≡ length arcs.now }
     ensures { OnOk result (text.new.items ≡ text.old.items ++ concat (map (λ (l : Arc × ℕ). Text.arc_line Version.Two l.0 (l.1 ∷ [])) (zip arcs.now units.now))) }
 {
     for i in 0..arcs.len() {
-        load_line(text, digits, &arcs[i], units[i])?;
+        load_line(text, &arcs[i], units[i])?;
     }
     Ok(())
 }
 
 /// The line of an arc with its units.
 #[tactic(auto, unfolding(crate::specs::Text::arc_line))]
-fn load_line(text: &mut Vec<u8>, digits: &mut Buffer, arc: &Arc, units: u64) -> Result<(), NoMemory>
+fn load_line(text: &mut Vec<u8>, arc: &Arc, units: u64) -> Result<(), NoMemory>
     ensures { OnOk result (text.new.items ≡ text.old.items ++ Text.arc_line Version.Two arc.now (units ∷ [])) }
 {
     line(
         text,
-        digits,
         b"arc",
         &[
             u64::from(arc.dir),
@@ -171,23 +155,22 @@ fn load_line(text: &mut Vec<u8>, digits: &mut Buffer, arc: &Arc, units: u64) -> 
 }
 
 /// The lines of arcs.
-fn arc_lines(text: &mut Vec<u8>, digits: &mut Buffer, arcs: &[Arc]) -> Result<(), NoMemory>
+fn arc_lines(text: &mut Vec<u8>, arcs: &[Arc]) -> Result<(), NoMemory>
     ensures { OnOk result (text.new.items ≡ text.old.items ++ concat (map (λ (a : Arc). Text.arc_line Version.Two a []) arcs.now)) }
 {
     for i in 0..arcs.len() {
-        arc_line(text, digits, &arcs[i])?;
+        arc_line(text, &arcs[i])?;
     }
     Ok(())
 }
 
 /// The line of an arc.
 #[tactic(auto, unfolding(crate::specs::Text::arc_line))]
-fn arc_line(text: &mut Vec<u8>, digits: &mut Buffer, arc: &Arc) -> Result<(), NoMemory>
+fn arc_line(text: &mut Vec<u8>, arc: &Arc) -> Result<(), NoMemory>
     ensures { OnOk result (text.new.items ≡ text.old.items ++ Text.arc_line Version.Two arc.now []) }
 {
     line(
         text,
-        digits,
         b"arc",
         &[
             u64::from(arc.dir),
@@ -200,24 +183,21 @@ fn arc_line(text: &mut Vec<u8>, digits: &mut Buffer, arc: &Arc) -> Result<(), No
 }
 
 /// The lines of potentials.
-fn potential_lines(
-    text: &mut Vec<u8>,
-    digits: &mut Buffer,
-    potentials: &[i128],
-) -> Result<(), NoMemory>
+fn potential_lines(text: &mut Vec<u8>, potentials: &[i128]) -> Result<(), NoMemory>
     ensures { OnOk result (text.new.items ≡ text.old.items ++ concat (map Text.potential_line potentials.now)) }
 {
     for i in 0..potentials.len() {
-        potential_line(text, digits, &potentials[i])?;
+        potential_line(text, &potentials[i])?;
     }
     Ok(())
 }
 
 /// A potential's line.
 #[tactic(auto, using(crate::proofs::Printed::three), unfolding(crate::specs::Text::potential_line))]
-fn potential_line(text: &mut Vec<u8>, digits: &mut Buffer, potential: &i128) -> Result<(), NoMemory>
+fn potential_line(text: &mut Vec<u8>, potential: &i128) -> Result<(), NoMemory>
     ensures { OnOk result (text.new.items ≡ text.old.items ++ Text.potential_line potential.now) }
 {
+    let mut digits = Buffer::new();
     text.extend_from_slice(b"potential ")?;
     text.extend_from_slice(digits.format(*potential).as_bytes())?;
     text.push(b'\n')?;
@@ -225,65 +205,71 @@ fn potential_line(text: &mut Vec<u8>, digits: &mut Buffer, potential: &i128) -> 
 }
 
 /// The lines of a side.
-fn side_lines(text: &mut Vec<u8>, digits: &mut Buffer, side: &[bool]) -> Result<(), NoMemory>
+fn side_lines(text: &mut Vec<u8>, side: &[bool]) -> Result<(), NoMemory>
     ensures { OnOk result (text.new.items ≡ text.old.items ++ concat (map Text.side_line side.now)) }
 {
     for i in 0..side.len() {
-        side_line(text, digits, side[i])?;
+        side_line(text, side[i])?;
     }
     Ok(())
 }
 
 /// The line of a node's side.
 #[tactic(auto, unfolding(crate::specs::Text::side_line))]
-fn side_line(text: &mut Vec<u8>, digits: &mut Buffer, on: bool) -> Result<(), NoMemory>
+fn side_line(text: &mut Vec<u8>, on: bool) -> Result<(), NoMemory>
     ensures { OnOk result (text.new.items ≡ text.old.items ++ Text.side_line on) }
 {
     if on {
-        line(text, digits, b"side", &[1])
+        line(text, b"side", &[1])
     } else {
-        line(text, digits, b"side", &[0])
+        line(text, b"side", &[0])
     }
 }
 
 /// The last line.
 #[tactic(auto, unfolding(crate::specs::Text::end_line))]
-fn last_line(text: &mut Vec<u8>, digits: &mut Buffer) -> Result<(), NoMemory>
+fn last_line(text: &mut Vec<u8>) -> Result<(), NoMemory>
     ensures { OnOk result (text.new.items ≡ text.old.items ++ Text.end_line) }
 {
-    line(text, digits, b"end", &[])
+    line(text, b"end", &[])
 }
 
 /// A line of a word and numbers.
-fn line(
-    text: &mut Vec<u8>,
-    digits: &mut Buffer,
-    word: &[u8],
-    numbers: &[u64],
-) -> Result<(), NoMemory>
+fn line(text: &mut Vec<u8>, word: &[u8], numbers: &[u64]) -> Result<(), NoMemory>
+    requires { length numbers.now ≤ 6 }
     ensures { OnOk result (text.new.items ≡ text.old.items ++ Text.text_line word.now numbers.now) }
 {
+    let mut room = [0; ROOM];
+    let start = fields(&mut room, numbers);
     text.extend_from_slice(word)?;
-    fields(text, digits, numbers)
+    text.extend_from_slice(&room[start..])?;
+    Ok(())
 }
 
-/// Numbers, each after one space, and the LF.
-#[tactic(auto, using(crate::proofs::Printed::next_field))]
-fn fields(text: &mut Vec<u8>, digits: &mut Buffer, numbers: &[u64]) -> Result<(), NoMemory>
-    ensures { OnOk result (text.new.items ≡ text.old.items ++ Text.fields numbers.now) }
+/// Writes numbers, each after one space, and the LF at the end of the room, and returns where they start.
+fn fields(room: &mut [u8], numbers: &[u64]) -> usize
+    requires { 21 * length numbers.now < length room.old }
+    ensures within { result ≤ length room.new }
+    ensures written { drop result room.new ≡ Text.fields numbers.now }
 {
-    for i in 0..numbers.len() {
-        field(text, digits, numbers[i])?;
+    let mut start = room.len() - 1;
+    room[start] = b'\n';
+    let mut left = numbers.len();
+    while left > 0 {
+        left -= 1;
+        start = field(room, start, numbers[left]);
     }
-    text.push(b'\n')?;
-    Ok(())
+    start
 }
 
-/// A space and a number.
-fn field(text: &mut Vec<u8>, digits: &mut Buffer, number: u64) -> Result<(), NoMemory>
-    ensures { OnOk result (text.new.items ≡ text.old.items ++ (32 ∷ decimal number)) }
+/// Writes a space and a number before `end`, and returns where they start.
+fn field(room: &mut [u8], end: usize, number: u64) -> usize
+    requires { (21 ≤ end) × (end ≤ length room.old) }
+    ensures above { end ≤ result + 21 }
+    ensures within { result ≤ end }
+    ensures written { drop result room.new ≡ 32 ∷ (decimal number ++ drop end room.old) }
 {
-    text.push(b' ')?;
-    text.extend_from_slice(digits.format(number).as_bytes())?;
-    Ok(())
+    let start = write_digits(number, room, end) - 1;
+    room[start] = b' ';
+    start
 }

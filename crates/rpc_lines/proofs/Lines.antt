@@ -1,9 +1,13 @@
 -- The bytes of a reply's line, put together from its tokens and the text of its value.
-use Rattle.std.proofs.Common.{◌≡◌, ℕ, ℤ, pos, negsuc, List, [], ◌∷◌, ◌++◌, codes, refl, append_assoc}
+use Rattle.std.proofs.Common.{◌≡◌, ℕ, ℤ, pos, negsuc, List, [], ◌∷◌, ◌++◌, Bool, false, String, BTreeMap, Global, codes, refl, sym, ap, ◌∙◌, append_assoc, append-nil}
+use Rattle.json.specs.Token.{key, string}
 use Rattle.json.specs.Print.{print, print_from, quoted, escape_byte}
 use Rattle.serde_json.specs.Data.{Data, number}
 use Rattle.serde_json.specs.Find.{of_integer}
-use Rattle.serde_json.specs.Written.{compact_text}
+use Rattle.serde_json.specs.View.{view, members_view}
+use Rattle.serde_json.specs.Written.{compact_text, has_float, members_have_float, members_text}
+use Rattle.serde_json.specs.declared.value.Value.{Value, Object}
+use Rattle.serde_json.proofs.Views.{Entry, view-Object}
 use Rattle.std.specs.Fmt.{signed_decimal}
 use Rattle.rpc_lines.specs.declared.request.Id.{Id}
 use Rattle.rpc_lines.specs.declared.request.Id.TheVariants.{Null, Unsigned, Signed, Text}
@@ -58,3 +62,25 @@ error_text id code message value =
     rw (error_head_text code, error_tail_text message id)
     (error_parts (codes "{\"error\":{\"code\":") (compact_text (number (of_integer code))) (codes ",\"data\":") (compact_text value) (44 ∷ []) (codes "\"message\":")
     (quoted message) (125 ∷ []) (codes ",\"id\":") (compact_text (id_data id)) (codes ",\"jsonrpc\":\"2.0\"}") (10 ∷ []))
+
+pub key_text : (name : List ℕ) → print (key name ∷ []) ≡ quoted name ++ 58 ∷ []
+unfolding print_from
+key_text name = append-nil (quoted name ++ 58 ∷ [])
+
+pub string_text : (text : List ℕ) → print (string text ∷ []) ≡ quoted text
+unfolding print_from
+string_text text = append-nil (quoted text)
+
+pub object_floats : (m : BTreeMap (String Global) Value) → has_float (view (Object m)) ≡ false → members_have_float (members_view m.entries) ≡ false
+object_floats m none = sym (ap has_float (view-Object m)) ∙ none
+
+-- what is left of an object's text, and that no floating-point number is in it
+pub record IsLeft (line : List ℕ) (later : Bool) (left : List Entry) (whole : List ℕ) : Type 0 where
+  pub text : line ++ members_text later (members_view left) ≡ whole
+  pub floats : members_have_float (members_view left) ≡ false
+
+-- the end of an object
+pub object_end : (start opened line done text : List ℕ) (later : Bool) (left : List Entry) → opened ≡ start ++ 123 ∷ [] → IsLeft line later left (opened ++ text) → left ≡ [] → done ≡ line ++ 125 ∷ [] → done ≡ start ++ 123 ∷ text
+object_end start opened line done text later left first was step last =
+    let here : IsLeft line later [] (opened ++ text) = rw step at was in
+    last ∙ here.text ∙ ap (λ o. o ++ text) first ∙ append_assoc start (123 ∷ []) text

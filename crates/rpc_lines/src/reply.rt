@@ -1,16 +1,16 @@
-ghost use Rattle.std.specs.Prelude.{◌≡◌, ◌++◌, IfOk, false};
-ghost use Rattle.serde_json.specs.View.{view};
-ghost use Rattle.serde_json.specs.Written.{has_float};
+ghost use Rattle.std.specs.Prelude.{◌≡◌, ◌++◌, ◌∷◌, [], IfOk, false};
+ghost use Rattle.serde_json.specs.View.{view, members_view};
+ghost use Rattle.serde_json.specs.Written.{comma_if, compact_text, has_float, members_have_float, members_text};
 ghost use Rattle.rpc_lines.specs.Reply.{id_data, with_result, with_error, value_in, place_data, reply_line};
 ghost use Rattle.rpc_lines.specs.Said.{said_content};
 ghost use Rattle.rpc_lines.specs.Tokens.{id_token, result_head, place_tokens, error_head, error_tail};
-ghost use Rattle.json.specs.Print.{print};
+ghost use Rattle.json.specs.Print.{print, quoted};
 ghost use Rattle.json.specs.Written.{Writes};
 
 use crate::request::Id;
 use json::Writer;
 use plan_base::{NoMemory, Text};
-use serde_json::Value;
+use serde_json::{Map, Value};
 use std::alloc::{AllocError, Global};
 use std::marker::Model;
 
@@ -129,9 +129,8 @@ fn result_line(alloc: Global, id: &Id, value: &Value) -> Result<Vec<u8>, AllocEr
     ensures { IfOk result
         (λ line. line.items ≡ reply_line (id_data id.now) (with_result (view value.now))) }
 {
-    let result = value.to_vec(alloc)?;
-    let mut line = result_start(alloc, id)?;
-    line.extend_from_slice(&result)?;
+    let line = result_start(alloc, id)?;
+    let mut line = write_value(alloc, line, value)?;
     line.extend_from_slice(b"}\n")?;
     Ok(line)
 }
@@ -160,12 +159,89 @@ fn error_line(
         (λ line. line.items
         ≡ reply_line (id_data id.now) (with_error code message.now (view detail.now))) }
 {
-    let detail = detail.to_vec(alloc)?;
-    let mut line = error_start(alloc, code)?;
-    line.extend_from_slice(&detail)?;
+    let line = error_start(alloc, code)?;
+    let mut line = write_value(alloc, line, detail)?;
     line.push(b',')?;
     let mut line = error_end(line, message, id)?;
     line.push(b'\n')?;
+    Ok(line)
+}
+
+// The text of a value. What an object contains is written one by one, since a string in it may be long.
+fn write_value(alloc: Global, line: Vec<u8>, value: &Value) -> Result<Vec<u8>, AllocError>
+    requires { has_float (view value.now) ≡ false }
+    ensures { IfOk result (λ whole. whole.items ≡ line.items ++ compact_text (view value.now)) }
+{
+    match value {
+        Value::Object(members) => write_members(alloc, line, members),
+        _ => write_member(alloc, line, value),
+    }
+}
+
+fn write_members(
+    alloc: Global,
+    mut line: Vec<u8>,
+    members: &Map<String, Value>,
+) -> Result<Vec<u8>, AllocError>
+    requires { members_have_float (members_view members.now.entries) ≡ false }
+    ensures { IfOk result
+        (λ whole. whole.items ≡ line.items ++ (123 ∷ members_text false (members_view members.now.entries))) }
+{
+    line.push(b'{')?;
+    let mut later = false;
+    for (key, member) in members.iter() {
+        let comma = write_comma(line, later)?;
+        let start = write_key(comma, key.as_str())?;
+        line = write_member(alloc, start, member)?;
+        later = true;
+    }
+    line.push(b'}')?;
+    Ok(line)
+}
+
+fn write_comma(mut line: Vec<u8>, later: bool) -> Result<Vec<u8>, AllocError>
+    ensures { IfOk result (λ whole. whole.items ≡ line.items ++ comma_if later) }
+{
+    if later {
+        line.push(b',')?;
+    }
+    Ok(line)
+}
+
+// A key and a colon.
+fn write_key(line: Vec<u8>, key: &str) -> Result<Vec<u8>, AllocError>
+    ensures { IfOk result (λ whole. whole.items ≡ line.items ++ (quoted key.now ++ 58 ∷ [])) }
+{
+    let mut out = Writer::new(line);
+    out.key(key)?;
+    Ok(out.into_inner())
+}
+
+// The text of a value, which is copied unless it is a string.
+fn write_member(alloc: Global, line: Vec<u8>, value: &Value) -> Result<Vec<u8>, AllocError>
+    requires { has_float (view value.now) ≡ false }
+    ensures { IfOk result (λ whole. whole.items ≡ line.items ++ compact_text (view value.now)) }
+{
+    match value {
+        Value::String(text) => write_string(line, text.as_str()),
+        _ => write_copy(alloc, line, value),
+    }
+}
+
+fn write_string(line: Vec<u8>, text: &str) -> Result<Vec<u8>, AllocError>
+    ensures { IfOk result (λ whole. whole.items ≡ line.items ++ quoted text.now) }
+{
+    let mut out = Writer::new(line);
+    out.string(text)?;
+    Ok(out.into_inner())
+}
+
+fn write_copy(alloc: Global, mut line: Vec<u8>, value: &Value) -> Result<Vec<u8>, AllocError>
+    requires { has_float (view value.now) ≡ false }
+    ensures { IfOk result (λ whole. whole.items ≡ line.items ++ compact_text (view value.now)) }
+{
+    let text = value.to_vec(alloc)?;
+    line.extend_from_slice(&text)?;
     Ok(line)
 }
 
