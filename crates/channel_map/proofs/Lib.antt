@@ -8,3 +8,5 @@ pub mod Readings
 pub mod Search
 pub mod Good
 pub mod Numbered
+pub mod Places
+pub mod Counted

@@ -93,14 +93,6 @@ all_are_ends old edges nodes is moved = rw is (λ k d within.
 
 -- ---- the nodes in order
 
-pub still_both : (nodes sorted : List (List ℕ)) (edges : List Edge) → IsPermutation nodes sorted → All (HasBothEnds nodes) edges → All (HasBothEnds sorted) edges
-still_both nodes sorted edges moved all k d within =
-    let both = all k d within in
-    record {
-      source = Contains-permutation nodes sorted (get_or edges k d).source moved both.source;
-      destination = Contains-permutation nodes sorted (get_or edges k d).destination moved both.destination;
-    }
-
 pub id_total : IsTotalOrder (slice_cmp nat_cmp)
 id_total = total texts_po (λ x y. refl)
 

@@ -1,7 +1,7 @@
 -- The nodes of a map, and the places of the ends of its directions among them.
-use Rattle.std.specs.Prelude.{◌≡◌, ℕ, ◌<◌, ◌≤◌, ◌⊎◌, List, [], length, map, All, slice_index_or}
+use Rattle.std.specs.Prelude.{◌≡◌, ℕ, ◌<◌, ◌≤◌, ◌⊎◌, List, [], length, map, All, slice_index, slice_index_or}
 use Rattle.std.specs.List.{Contains}
-use Rattle.std.specs.List.Sorted.{IsStrictlySortedBy}
+use Rattle.std.specs.List.Sorted.{IsPermutation, IsStrictlySortedBy}
 use Rattle.std.specs.Ordering.{nat_cmp}
 use Rattle.std.specs.Cmp.Lexicographic.{slice_cmp}
 use Rattle.channel_map.specs.declared.channel_map.TheConstants.{MAP_NODES_MAX}
@@ -40,3 +40,17 @@ pub record AreNodesOf (edges : List Edge) (nodes : MapNodes) : Type 0 where
   pub only : All (IsEnd edges) nodes.ids.items
   pub named : map (named_ends nodes.ids.items) nodes.ends.items ≡ map ends_of edges
   pub within : All (ArePlaces (length nodes.ids.items)) nodes.ends.items
+
+abbrev pub id_at : List (List ℕ) → ℕ → List ℕ
+id_at ids place = slice_index_or ids place []
+
+-- the ends, where the node at each place has moved to another
+abbrev pub ends_at : List ℕ → Ends → Ends
+ends_at places ends = record { from = slice_index places ends.from; to = slice_index places ends.to }
+
+-- the nodes in order, and the ends at their new places
+pub record IsNumbered (nodes : List (List ℕ)) (ends : List Ends) (numbered : MapNodes) : Type 0 where
+  pub same : IsPermutation nodes numbered.ids.items
+  pub ascend : IsStrictlySortedBy (slice_cmp nat_cmp) numbered.ids.items
+  pub named : map (named_ends numbered.ids.items) numbered.ends.items ≡ map (named_ends nodes) ends
+  pub within : All (ArePlaces (length numbered.ids.items)) numbered.ends.items

@@ -10,8 +10,8 @@ use crate::channels::read_listed;
 use crate::edge::Edge;
 use crate::entries::{Entries, Unread};
 use crate::fault::MapFault;
-use crate::nodes::{MapNodes, number_nodes};
-use crate::order::{count_nodes, first_repeated, gather_nodes, sort};
+use crate::nodes::{MapNodes, find_nodes, number_nodes};
+use crate::order::{count_nodes, first_repeated, sort};
 use plan_base::Dir;
 use std::alloc::Global;
 use std::marker::Model;
@@ -196,13 +196,17 @@ pub fn read_map(alloc: Global, text: &[u8]) -> Result<ChannelMap, MapFault>
 {
     let mut edges = read_edges(alloc, text)?;
     let directions = edges.len();
-    let set = gather_nodes(alloc, &edges)?;
-    let nodes = set.len();
-    if directions > MAP_DIRECTIONS_MAX || nodes > MAP_NODES_MAX {
+    if directions > MAP_DIRECTIONS_MAX {
+        let nodes = count_nodes(alloc, &edges)?;
         return Err(MapFault::TooMany { directions, nodes });
     }
     sort(&mut edges);
-    let nodes = number_nodes(alloc, set, &edges)?;
+    let found = find_nodes(alloc, &edges)?;
+    let nodes = found.nodes.len();
+    if nodes > MAP_NODES_MAX {
+        return Err(MapFault::TooMany { directions, nodes });
+    }
+    let nodes = number_nodes(alloc, found)?;
     Ok(ChannelMap { edges, nodes })
 }
 

@@ -1,9 +1,10 @@
-ghost use Rattle.std.specs.Prelude.{◌≡◌, ◌<◌, ◌≤◌, length, map, slice_index_or, [], All, IfOk};
+ghost use Rattle.std.specs.Prelude.{◌≡◌, ◌+◌, ◌*◌, ◌<◌, ◌≤◌, length, map, slice_index_or, [], All, IfOk, OnOk};
 ghost use Rattle.std.specs.List.{Contains};
-ghost use Rattle.channel_map.specs.Nodes.{AreNodesOf, ArePlaces, HasBothEnds, IsEnd, ends_of, named_ends};
+ghost use Rattle.channel_map.specs.Nodes.{ArePlaces, IsNumbered, ends_at, ends_of, id_at, named_ends};
+ghost use Rattle.channel_map.specs.Reading.{nodes_of, with_ends, with_node};
 
-use crate::MAP_NODES_MAX;
 use crate::edge::Edge;
+use crate::{MAP_DIRECTIONS_MAX, MAP_NODES_MAX};
 use indexmap::IndexSet;
 use plan_base::{NoMemory, NodeId};
 use std::alloc::Global;
@@ -26,47 +27,84 @@ pub struct MapNodes {
     pub ends: Vec<Ends>,
 }
 
-/// Numbers nodes, each of which is an end of a direction, in ascending order.
-pub(crate) fn number_nodes(
-    alloc: Global,
-    mut nodes: IndexSet<NodeId>,
-    edges: &[Edge],
-) -> Result<MapNodes, NoMemory>
-    requires few { length nodes.keys ≤ MAP_NODES_MAX }
-    requires all { All (HasBothEnds nodes.keys) edges.now }
-    requires only { All (IsEnd edges.now) nodes.keys }
-    ensures { IfOk result (AreNodesOf edges.now) }
+/// The nodes that are ends of directions, in the order in which they are found, and the places of the ends among them.
+#[derive(Drop)]
+pub(crate) struct FoundNodes {
+    pub(crate) nodes: IndexSet<NodeId>,
+    pub(crate) ends: Vec<Ends>,
+}
+
+/// Finds the ends of the directions.
+pub(crate) fn find_nodes(alloc: Global, edges: &[Edge]) -> Result<FoundNodes, NoMemory>
+    requires few { length edges.now ≤ MAP_DIRECTIONS_MAX }
+    ensures nodes { IfOk result (λ found. found.nodes.keys ≡ nodes_of edges.now) }
+    ensures named { IfOk result (λ found. map (named_ends found.nodes.keys) found.ends.items ≡ map ends_of edges.now) }
+    ensures within { IfOk result (λ found. All (ArePlaces (length found.nodes.keys)) found.ends.items) }
 {
+    let mut nodes: IndexSet<NodeId> = IndexSet::new(alloc);
+    let mut ends = Vec::with_capacity(alloc, edges.len())?;
+    for edge in edges {
+        let places = add_ends(&mut nodes, edge)?;
+        ends.push(places)?;
+    }
+    Ok(FoundNodes { nodes, ends })
+}
+
+fn add_ends(nodes: &mut IndexSet<NodeId>, edge: &Edge) -> Result<Ends, NoMemory>
+    requires few { length nodes.old.keys + 1 < 2 * MAP_DIRECTIONS_MAX }
+    ensures keys { OnOk result (nodes.new.keys ≡ with_ends nodes.old.keys edge.now) }
+    ensures named { IfOk result (λ ends. named_ends nodes.new.keys ends ≡ ends_of edge.now) }
+    ensures within { IfOk result (ArePlaces (length nodes.new.keys)) }
+{
+    let from = add_node(nodes, edge.source)?;
+    let to = add_node(nodes, edge.destination)?;
+    Ok(Ends { from, to })
+}
+
+fn add_node(nodes: &mut IndexSet<NodeId>, node: NodeId) -> Result<u32, NoMemory>
+    requires few { length nodes.old.keys < 2 * MAP_DIRECTIONS_MAX }
+    ensures keys { OnOk result (nodes.new.keys ≡ with_node nodes.old.keys node) }
+    ensures is { IfOk result (λ place. slice_index_or nodes.new.keys place [] ≡ node) }
+    ensures within { IfOk result (λ place. place < length nodes.new.keys) }
+{
+    let added = nodes.insert_full(node)?;
+    Ok(added.0 as u32)
+}
+
+/// Numbers the nodes in ascending order.
+pub(crate) fn number_nodes(alloc: Global, found: FoundNodes) -> Result<MapNodes, NoMemory>
+    requires few { length found.nodes.keys ≤ MAP_NODES_MAX }
+    requires within { All (ArePlaces (length found.nodes.keys)) found.ends.items }
+    ensures { IfOk result (IsNumbered found.nodes.keys found.ends.items) }
+{
+    let FoundNodes { mut nodes, ends } = found;
+    let before = ids_of(alloc, &nodes)?;
     nodes.sort_unstable()?;
-    let ends = places(alloc, &nodes, edges)?;
-    let mut ids = Vec::with_capacity(alloc, nodes.len())?;
-    ids.extend_from_slice(nodes.as_slice())?;
+    let places = places(alloc, &nodes, &before)?;
+    let ends = moved(alloc, &places, &ends)?;
+    let ids = ids_of(alloc, &nodes)?;
     Ok(MapNodes { ids, ends })
 }
 
-fn places(alloc: Global, nodes: &IndexSet<NodeId>, edges: &[Edge]) -> Result<Vec<Ends>, NoMemory>
-    requires few { length nodes.now.keys ≤ MAP_NODES_MAX }
-    requires all { All (HasBothEnds nodes.now.keys) edges.now }
-    ensures named { IfOk result (λ ends. map (named_ends nodes.now.keys) ends.items ≡ map ends_of edges.now) }
-    ensures within { IfOk result (λ ends. All (ArePlaces (length nodes.now.keys)) ends.items) }
+fn ids_of(alloc: Global, nodes: &IndexSet<NodeId>) -> Result<Vec<NodeId>, NoMemory>
+    ensures { IfOk result (λ ids. ids.items ≡ nodes.now.keys) }
 {
-    let mut ends = Vec::with_capacity(alloc, edges.len())?;
-    for edge in edges {
-        ends.push(place_ends(nodes, edge))?;
-    }
-    Ok(ends)
+    let mut ids = Vec::with_capacity(alloc, nodes.len())?;
+    ids.extend_from_slice(nodes.as_slice())?;
+    Ok(ids)
 }
 
-fn place_ends(nodes: &IndexSet<NodeId>, edge: &Edge) -> Ends
+fn places(alloc: Global, nodes: &IndexSet<NodeId>, before: &[NodeId]) -> Result<Vec<u32>, NoMemory>
     requires few { length nodes.now.keys ≤ MAP_NODES_MAX }
-    requires all { HasBothEnds nodes.now.keys edge.now }
-    ensures named { named_ends nodes.now.keys result ≡ ends_of edge.now }
-    ensures within { ArePlaces (length nodes.now.keys) result }
+    requires all { All (Contains nodes.now.keys) before.now }
+    ensures named { IfOk result (λ places. map (id_at nodes.now.keys) places.items ≡ before.now) }
+    ensures within { IfOk result (λ places. All (λ place. place < length nodes.now.keys) places.items) }
 {
-    Ends {
-        from: place_of(nodes, &edge.source),
-        to: place_of(nodes, &edge.destination),
+    let mut places = Vec::with_capacity(alloc, before.len())?;
+    for node in before {
+        places.push(place_of(nodes, node))?;
     }
+    Ok(places)
 }
 
 fn place_of(nodes: &IndexSet<NodeId>, node: &NodeId) -> u32
@@ -76,4 +114,27 @@ fn place_of(nodes: &IndexSet<NodeId>, node: &NodeId) -> u32
     ensures is { slice_index_or nodes.now.keys result [] ≡ node.now }
 {
     nodes.get_index_of(node).unwrap() as u32
+}
+
+// The ends, where the node at each place has moved to another.
+#[tactic(auto, using(crate::proofs::Places::moved_more))]
+fn moved(alloc: Global, places: &[u32], ends: &[Ends]) -> Result<Vec<Ends>, NoMemory>
+    requires { All (ArePlaces (length places.now)) ends.now }
+    ensures { IfOk result (λ moved. moved.items ≡ map (ends_at places.now) ends.now) }
+{
+    let mut moved = Vec::with_capacity(alloc, ends.len())?;
+    for pair in ends {
+        moved.push(moved_ends(places, pair))?;
+    }
+    Ok(moved)
+}
+
+fn moved_ends(places: &[u32], ends: &Ends) -> Ends
+    requires { ArePlaces (length places.now) ends.now }
+    ensures { result ≡ ends_at places.now ends.now }
+{
+    Ends {
+        from: places[ends.from as usize],
+        to: places[ends.to as usize],
+    }
 }

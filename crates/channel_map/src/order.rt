@@ -28,8 +28,7 @@ pub(crate) fn count_nodes(alloc: Global, edges: &[Edge]) -> Result<usize, NoMemo
     Ok(gather_nodes(alloc, edges)?.len())
 }
 
-/// The ends of the directions, each node once.
-pub(crate) fn gather_nodes(alloc: Global, edges: &[Edge]) -> Result<IndexSet<NodeId>, NoMemory>
+fn gather_nodes(alloc: Global, edges: &[Edge]) -> Result<IndexSet<NodeId>, NoMemory>
     ensures { IfOk result (λ nodes. nodes.keys ≡ nodes_of edges.now) }
 {
     let mut nodes: IndexSet<NodeId> = IndexSet::new(alloc);

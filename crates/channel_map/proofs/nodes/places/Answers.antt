@@ -1,24 +1,25 @@
-use Rattle.std.proofs.Common.{◌≡◌, ◌+◌, ◌∷◌, [], ◌++◌, length, take, map, sym, ap, subst, ◌∙◌}
+use Rattle.std.proofs.Common.{◌≡◌, ◌+◌, ◌<◌, ◌∷◌, [], ◌++◌, length, take, map, sym, ap, subst, ◌∙◌}
+use Rattle.std.specs.List.{Contains}
 use Rattle.std.proofs.lemmas.List.{take_more, map-append}
 use Rattle.std.proofs.lemmas.List.Elements.{All-push}
-use Rattle.channel_map.specs.Nodes.{ArePlaces, HasBothEnds, ends_of, named_ends}
+use Rattle.channel_map.specs.Nodes.{id_at}
 use Rattle.channel_map.proofs.nodes.places.Goals as goal
 
-pub place_ends-requires-clause-all : goal.place_ends-requires-clause-all
-place_ends-requires-clause-all c =
-    subst (HasBothEnds c.args.nodes.now.keys) (sym c.edge-item.is) (c.requires.all c.loop-edge.edge-index c.edge-item.result c.loop-edge-test.true)
+pub place_of-requires-clause-among : goal.place_of-requires-clause-among
+place_of-requires-clause-among c =
+    subst (Contains c.args.nodes.now.keys) (sym c.node-item.is) (c.requires.all c.loop-node.node-index c.node-item.result c.loop-node-test.true)
 
-pub loop-edge-preserved : goal.loop-edge-preserved
-loop-edge-preserved c =
-    let l = c.loop-edge in
-    let edges = c.args.edges.now in
+pub loop-node-preserved : goal.loop-node-preserved
+loop-node-preserved c =
+    let l = c.loop-node in
+    let before = c.args.before.now in
     let keys = c.args.nodes.now.keys in
-    let item = c.edge-item.result in
-    let more : take (l.edge-index + 1) edges ≡ take l.edge-index edges ++ item ∷ [] =
-    take_more edges l.edge-index item c.loop-edge-test.true ∙ ap (λ y. take l.edge-index edges ++ y ∷ []) (sym c.edge-item.is) in
+    let item = c.node-item.result in
+    let more : take (l.node-index + 1) before ≡ take l.node-index before ++ item ∷ [] =
+    take_more before l.node-index item c.loop-node-test.true ∙ ap (λ y. take l.node-index before ++ y ∷ []) (sym c.node-item.is) in
     record {
-      named = ap (map (named_ends keys)) c.in_ok-push.ensures.items ∙ map-append (named_ends keys) l.ends.items (c.place_ends.result ∷ [])
-          ∙ ap (λ list. list ++ named_ends keys c.place_ends.result ∷ []) l.invariant.named ∙ ap (λ o. map ends_of (take l.edge-index edges) ++ o ∷ []) c.place_ends.ensures.named
-          ∙ sym (map-append ends_of (take l.edge-index edges) (item ∷ [])) ∙ ap (map ends_of) (sym more);
-      within = rw c.in_ok-push.ensures.items (All-push (ArePlaces (length keys)) l.ends.items c.place_ends.result l.invariant.within c.place_ends.ensures.within);
+      named = ap (map (id_at keys)) c.in_ok-push.ensures.items ∙ map-append (id_at keys) l.places.items (c.place_of.result ∷ [])
+          ∙ ap (λ list. list ++ id_at keys c.place_of.result ∷ []) l.invariant.named ∙ ap (λ id. take l.node-index before ++ id ∷ []) c.place_of.ensures.is
+          ∙ sym more;
+      within = rw c.in_ok-push.ensures.items (All-push (λ place. place < length keys) l.places.items c.place_of.result l.invariant.within c.place_of.ensures.within);
     }
