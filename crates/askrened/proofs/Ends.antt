@@ -16,7 +16,7 @@ use Rattle.session.specs.Session.{IsServable, EndsWell}
 use Rattle.channel_map.specs.declared.edge.Edge.{Edge}
 use Rattle.session.proofs.Going.{told_none}
 use Rattle.askrened.specs.declared.status.Status.{Status}
-use Rattle.askrened.specs.declared.status.Status.TheVariants.{Ok, Usage, MapRefused, ReadFault, WriteFault, NoMemory, CheckNo, SessionFull, Long}
+use Rattle.askrened.specs.declared.status.Status.TheVariants.{Ok, Usage, MapRefused, ReadFault, WriteFault, NoMemory, CheckNo, SessionFull, Long, BindFault, AcceptFault}
 use Rattle.channel_map.specs.declared.fault.MapFault.{MapFault}
 use Rattle.channel_map.specs.declared.fault.MapFault.TheVariants as Fault
 use Rattle.channel_map.specs.Reading.{Reading, map_reading, local_reading, IsMapFault}
@@ -76,6 +76,14 @@ check_is_no_usage Checks.ReadFault = λ same. cc
 check_is_no_usage Checks.WriteFault = λ same. cc
 check_is_no_usage Checks.Long = λ same. cc
 
+pub check_is_never_bound : (end : CheckEnd) → (check_status end ≢ BindFault) × ((worker : ℕ) → check_status end ≢ AcceptFault worker)
+check_is_never_bound Checks.Shown = (λ same. cc, λ worker same. cc)
+check_is_never_bound (Checks.NotShown line readable) = (λ same. cc, λ worker same. cc)
+check_is_never_bound Checks.NoMemory = (λ same. cc, λ worker same. cc)
+check_is_never_bound Checks.ReadFault = (λ same. cc, λ worker same. cc)
+check_is_never_bound Checks.WriteFault = (λ same. cc, λ worker same. cc)
+check_is_never_bound Checks.Long = (λ same. cc, λ worker same. cc)
+
 -- no memory is a good end
 pub no_session_ends_well : (told : Option (List ℕ)) (Reads Writes : Type 0) → IfSome told (λ bytes. IsServable bytes → (Reads → ⊥) → (Writes → ⊥) → AskEndsWell NoMemory)
 no_session_ends_well None Reads Writes = tt
@@ -105,6 +113,11 @@ gen_is_no_usage Gen.Done = λ same. cc
 gen_is_no_usage Gen.WriteFault = λ same. cc
 gen_is_no_usage Gen.NoMemory = λ same. cc
 
+pub gen_is_never_bound : (end : GenEnd) → (gen_status end ≢ BindFault) × ((worker : ℕ) → gen_status end ≢ AcceptFault worker)
+gen_is_never_bound Gen.Done = (λ same. cc, λ worker same. cc)
+gen_is_never_bound Gen.WriteFault = (λ same. cc, λ worker same. cc)
+gen_is_never_bound Gen.NoMemory = (λ same. cc, λ worker same. cc)
+
 pub gen_reads_nothing : (end : GenEnd) → gen_status end ≢ ReadFault
 gen_reads_nothing Gen.Done = λ same. cc
 gen_reads_nothing Gen.WriteFault = λ same. cc
@@ -127,6 +140,8 @@ served_asks files map local channels locals Long span served asking = (asking, �
 served_asks files map local channels locals Usage span served asking = absurd served
 served_asks files map local channels locals (MapRefused is_local fault) span served asking = absurd served
 served_asks files map local channels locals (CheckNo line readable) span served asking = absurd served
+served_asks files map local channels locals BindFault span served asking = absurd served
+served_asks files map local channels locals (AcceptFault worker) span served asking = absurd served
 
 pub served_is_ask : (files : Files) (map local : Option Bytes) (channels locals : List Edge) (status : Status) (span : RunSpan) → IsServed channels locals status span
     → IsLoadedAs map_reading files map channels → IsLoadedAs local_reading files local locals → IsAsk files map local status span × (status ≢ Usage)
@@ -144,6 +159,8 @@ good_tells files map local channels locals Long span served one two = (one, two)
 good_tells files map local channels locals Usage span served one two = absurd served
 good_tells files map local channels locals (MapRefused is_local fault) span served one two = absurd served
 good_tells files map local channels locals (CheckNo line readable) span served one two = absurd served
+good_tells files map local channels locals BindFault span served one two = absurd served
+good_tells files map local channels locals (AcceptFault worker) span served one two = absurd served
 
 pub served_tells : (files : Files) (map local : Option Bytes) (channels locals : List Edge) (status : Status) (span : RunSpan) → IsServed channels locals status span
     → IsLoadedAs map_reading files map channels → IsLoadedAs local_reading files local locals → TellsFiles files map local status
@@ -167,6 +184,8 @@ load_fault_is_ask files map local WriteFault input output clock is = absurd is
 load_fault_is_ask files map local (CheckNo line readable) input output clock is = absurd is
 load_fault_is_ask files map local SessionFull input output clock is = absurd is
 load_fault_is_ask files map local Long input output clock is = absurd is
+load_fault_is_ask files map local BindFault input output clock is = absurd is
+load_fault_is_ask files map local (AcceptFault worker) input output clock is = absurd is
 
 -- a file that is known to be good is not refused
 fits_not : (reading : Reading) (fault : MapFault) → IsAccepted reading → IsMapFault fault reading → fault ≢ Fault.NoMemory → ⊥
@@ -191,7 +210,7 @@ known_not : (reader : Reader) (known : Option Bytes) (fault : MapFault) → IsSo
 known_not reader None fault good other refused = good
 known_not reader (Some bytes) fault good other refused = fault_not reader bytes fault good refused other
 
-good_is_not_refused : (reader : Reader) (files : Files) (name : Option Bytes) (fault : MapFault) → IsKnownGood reader files name → IsRefusedFor reader files name fault → ⊥
+pub good_is_not_refused : (reader : Reader) (files : Files) (name : Option Bytes) (fault : MapFault) → IsKnownGood reader files name → IsRefusedFor reader files name fault → ⊥
 good_is_not_refused reader files None fault good refused = refused
 good_is_not_refused reader files (Some name) fault good refused = known_not reader (files name) fault good refused.0 refused.1
 
@@ -207,6 +226,8 @@ load_ends_well files map local WriteFault Opens is tells opens one two closed = 
 load_ends_well files map local (CheckNo line readable) Opens is tells opens one two closed = absurd is
 load_ends_well files map local SessionFull Opens is tells opens one two closed = absurd is
 load_ends_well files map local Long Opens is tells opens one two closed = absurd is
+load_ends_well files map local BindFault Opens is tells opens one two closed = absurd is
+load_ends_well files map local (AcceptFault worker) Opens is tells opens one two closed = absurd is
 
 pub load_fault_ends_well : (files : Files) (map local : Option Bytes) (status : Status) (told : Option (List ℕ)) (Opens Reads Writes : Type 0) → IsLoadFault status
     → TellsFiles files map local status → (status ≡ ReadFault → Opens) → IsKnownGood map_reading files map → IsKnownGood local_reading files local

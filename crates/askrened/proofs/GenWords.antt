@@ -22,7 +22,7 @@ use Rattle.askrened.proofs.Asking.{taken_asks}
 -- ---- one word
 
 -- between two words, before the argument at a place
-abbrev standing : Held → ℕ → Walk
+abbrev pub standing : Held → ℕ → Walk
 standing held place = record { held = held; waiting = idle; position = place; is_trailing = false; stopped = None }
 
 -- a plain word goes to the argument at its place
@@ -40,18 +40,18 @@ to_place_fault s held place [] words plain = absurd plain
 to_place_fault s held place (x ∷ xs) words plain = let e = no_dash x plain in simp (no_long x xs e, no_short x xs e, no_dashes x xs e)
 
 -- a value that its argument takes
-taken_value : (ignore_case : Bool) (parser : ValueParser) (text : Text) → accepts ignore_case parser text ≡ true → values_kinds ignore_case parser (text ∷ []) ≡ []
+pub taken_value : (ignore_case : Bool) (parser : ValueParser) (text : Text) → accepts ignore_case parser text ≡ true → values_kinds ignore_case parser (text ∷ []) ≡ []
 taken_value ignore_case parser text taken = rw taken refl
 
 -- ---- one level of words
 
-level_taken : (s : Shape) (words : List Text) (end : Held) → (walk s.rules [] nothing_held words).held ≡ end → walk_fault s [] (walk_from nothing_held) words ≡ []
+pub level_taken : (s : Shape) (words : List Text) (end : Held) → (walk s.rules [] nothing_held words).held ≡ end → walk_fault s [] (walk_from nothing_held) words ≡ []
     → settle_fault s.rules s.args_override_self end ≡ [] → defaults_fault (settled s.rules end).rows s.rules ≡ [] → check_fault s (finished s.rules end) false ≡ []
     → level_fault s [] nothing_held words false [] ≡ []
 level_taken s words end is walks settles defaults checks = rw (is, walks, settles, defaults, checks) refl
 
 -- the words before a command, and the command that they name
-top_taken : (a : App) (words : List Text) (name : Text) (rest : List Text) (s : Shape) → walk a.top.rules (names_of a) nothing_held words ≡ record (walk_from nothing_held) { stopped = Some (name, rest) }
+pub top_taken : (a : App) (words : List Text) (name : Text) (rest : List Text) (s : Shape) → walk a.top.rules (names_of a) nothing_held words ≡ record (walk_from nothing_held) { stopped = Some (name, rest) }
     → walk_fault a.top (names_of a) (walk_from nothing_held) words ≡ [] → defaults_fault [] a.top.rules ≡ [] → check_fault a.top (finished a.top.rules nothing_held) true ≡ []
     → find (λ sub. answers_to name (label_of sub)) a.subs ≡ Some s → level_fault s [] nothing_held rest false [] ≡ [] → built_fault a nothing_held words ≡ []
 top_taken a words name rest s is walks defaults checks found below = rw (is, walks, found, below, defaults, checks) refl
@@ -122,7 +122,7 @@ gen_fault = walk_fault gen_shape []
 then_no_fault : (first next : Kinds) → first ≡ [] → next ≡ [] → or_else first next ≡ []
 then_no_fault first next none none_next = rw (none, none_next) refl
 
-no_words : (s : Shape) (names : Names) (w : Walk) → walk_fault s names w [] ≡ []
+pub no_words : (s : Shape) (names : Names) (w : Walk) → walk_fault s names w [] ≡ []
 unfolding walk_fault
 no_words s names w = refl
 
@@ -166,7 +166,7 @@ gen_level : (a b c d : Text) → AreTaken a b c d → level_fault gen_shape [] n
 gen_level a b c d t = level_taken gen_shape (four a b c d) (held4 a b c d) (ap (λ w. w.held) (gen_walk a b c d t.plain_a t.plain_b t.plain_c t.plain_d))
     (gen_walk_taken a b c d t) (taken_value false (vp.Unsigned 0 ASKS_MAX) d t.asks) (gen_defaults a b c d) (gen_checks a b c d)
 
-top_defaults : defaults_fault [] (built form).top.rules ≡ []
+pub top_defaults : defaults_fault [] (built form).top.rules ≡ []
 unfolding defaults_fault
 top_defaults = refl
 
@@ -174,7 +174,7 @@ gen_taken : (a b c d : Text) → AreTaken a b c d → fault_of form (codes "gen"
 gen_taken a b c d t = top_taken (built form) (codes "gen" ∷ four a b c d) (codes "gen") (four a b c d) gen_shape (gen_stop a b c d) (gen_top a b c d) top_defaults refl gen_found (gen_level a b c d t)
 
 -- what is found
-entered_at : (a : App) (stop : Option (Text × List Text)) (name : Text) (words : List Text) (s : Shape) (end : Walk) → stop ≡ Some (name, words) → find (λ sub. answers_to name (label_of sub)) a.subs ≡ Some s
+pub entered_at : (a : App) (stop : Option (Text × List Text)) (name : Text) (words : List Text) (s : Shape) (end : Walk) → stop ≡ Some (name, words) → find (λ sub. answers_to name (label_of sub)) a.subs ≡ Some s
     → walk s.rules [] nothing_held words ≡ end → entered a stop ≡ Some (s.name, finished s.rules end.held)
 entered_at a stop name words s end is found walks = rw (is, found, walks) refl
 

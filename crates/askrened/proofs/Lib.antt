@@ -5,3 +5,5 @@ mod Spelled
 mod Numbers
 mod PlainWords
 mod GenWords
+mod ServeWords
+mod ServingEnds

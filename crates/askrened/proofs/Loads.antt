@@ -8,7 +8,7 @@ use Rattle.channel_map.specs.Reading.{Reading, map_reading, local_reading, IsMap
 use Rattle.port_io.specs.Faults.{Rose}
 use Rattle.askrened.specs.declared.load.TheConstants.{FILE_MAX}
 use Rattle.askrened.specs.declared.status.Status.{Status}
-use Rattle.askrened.specs.declared.status.Status.TheVariants.{Ok, Usage, MapRefused, ReadFault, WriteFault, NoMemory, CheckNo, SessionFull, Long}
+use Rattle.askrened.specs.declared.status.Status.TheVariants.{Ok, Usage, MapRefused, ReadFault, WriteFault, NoMemory, CheckNo, SessionFull, Long, BindFault, AcceptFault}
 use Rattle.askrened.specs.Form.{Bytes}
 use Rattle.askrened.specs.Load.{Files, Reader, IsAccepted, IsGoodFile, IsGood, IsLoadedAs, IsFaultOf, IsRefusedFor, IsLoadFault, TellsFiles}
 use Rattle.askrened.specs.OneFile.{IsTextOf, TellsFile, refusal_status}
@@ -90,6 +90,8 @@ map_tells files map local WriteFault tells = absurd tells
 map_tells files map local (CheckNo line readable) tells = absurd tells
 map_tells files map local SessionFull tells = absurd tells
 map_tells files map local Long tells = absurd tells
+map_tells files map local BindFault tells = absurd tells
+map_tells files map local (AcceptFault worker) tells = absurd tells
 
 -- the map was loaded, and the local file is refused
 pub local_tells : (files later : Files) (map local : Option Bytes) (edges : List Edge) (status : Status) → ((other : Bytes) → later other ≡ files other)
@@ -105,6 +107,8 @@ local_tells files later map local edges WriteFault same loaded tells = absurd te
 local_tells files later map local edges (CheckNo line readable) same loaded tells = absurd tells
 local_tells files later map local edges SessionFull same loaded tells = absurd tells
 local_tells files later map local edges Long same loaded tells = absurd tells
+local_tells files later map local edges BindFault same loaded tells = absurd tells
+local_tells files later map local edges (AcceptFault worker) same loaded tells = absurd tells
 
 -- a count that rose in one of two steps
 pub rose_early : (a b c : ℕ) → Rose a b → b ≤ c → Rose a c

@@ -20,7 +20,7 @@ use Rattle.session.specs.Session.{IsToldSession}
 use Rattle.askrened.specs.Form.{Bytes}
 use Rattle.askrened.specs.Load.{Files, IsLoadedAs}
 use Rattle.askrened.specs.declared.status.Status.{Status}
-use Rattle.askrened.specs.declared.status.Status.TheVariants.{Ok, Usage, MapRefused, ReadFault, WriteFault, NoMemory, CheckNo, SessionFull, Long}
+use Rattle.askrened.specs.declared.status.Status.TheVariants.{Ok, Usage, MapRefused, ReadFault, WriteFault, NoMemory, CheckNo, SessionFull, Long, BindFault, AcceptFault}
 
 -- the streams and the clock before a run and after it, as far as they are known
 pub record RunSpan : Type 0 where
@@ -58,6 +58,8 @@ IsServed channels locals Long span = IsServing channels locals Session.Long span
 IsServed channels locals Usage span = ⊥
 IsServed channels locals (MapRefused local fault) span = ⊥
 IsServed channels locals (CheckNo line readable) span = ⊥
+IsServed channels locals BindFault span = ⊥
+IsServed channels locals (AcceptFault worker) span = ⊥
 
 -- the map and the local file were loaded, and the lines were served over them
 pub record IsAsking (files : Files) (map local : Option Bytes) (status : Status) (span : RunSpan) : Type 0 where
@@ -88,6 +90,8 @@ IsChecking NoMemory span = IsCheckOf Checks.NoMemory span
 IsChecking Usage span = ⊥
 IsChecking (MapRefused local fault) span = ⊥
 IsChecking SessionFull span = ⊥
+IsChecking BindFault span = ⊥
+IsChecking (AcceptFault worker) span = ⊥
 
 -- nothing outside the program kept a session from its end
 abbrev pub AskEndsWell : Status → Type 0
@@ -100,6 +104,8 @@ AskEndsWell WriteFault = ⊥
 AskEndsWell (CheckNo line readable) = ⊥
 AskEndsWell SessionFull = ⊥
 AskEndsWell Long = ⊥
+AskEndsWell BindFault = ⊥
+AskEndsWell (AcceptFault worker) = ⊥
 
 -- nothing outside the program kept a check from its verdict
 abbrev pub CheckEndsWell : Status → Type 0
@@ -112,6 +118,8 @@ CheckEndsWell ReadFault = ⊥
 CheckEndsWell WriteFault = ⊥
 CheckEndsWell SessionFull = ⊥
 CheckEndsWell Long = ⊥
+CheckEndsWell BindFault = ⊥
+CheckEndsWell (AcceptFault worker) = ⊥
 
 -- an input that a check reads whole
 abbrev pub IsCheckable : List ℕ → Type 0
@@ -131,6 +139,8 @@ IsGenerating ReadFault span size = ⊥
 IsGenerating (CheckNo line readable) span size = ⊥
 IsGenerating SessionFull span size = ⊥
 IsGenerating Long span size = ⊥
+IsGenerating BindFault span size = ⊥
+IsGenerating (AcceptFault worker) span size = ⊥
 
 -- nothing outside the program kept a workload from its summary
 abbrev pub GenEndsWell : Status → Type 0
@@ -143,3 +153,5 @@ GenEndsWell WriteFault = ⊥
 GenEndsWell (CheckNo line readable) = ⊥
 GenEndsWell SessionFull = ⊥
 GenEndsWell Long = ⊥
+GenEndsWell BindFault = ⊥
+GenEndsWell (AcceptFault worker) = ⊥

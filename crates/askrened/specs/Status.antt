@@ -1,13 +1,16 @@
 -- The exit status of each way in which the program ends.
-use Rattle.std.specs.Prelude.{ℕ}
+use Rattle.std.specs.Prelude.{ℕ, List, [], ◌∷◌, Option, Some, None}
+use Rattle.std.specs.Option.{option_or}
 use Rattle.port_io.specs.declared.session_end.SessionEnd.{SessionEnd}
 use Rattle.port_io.specs.declared.session_end.SessionEnd.TheVariants as Session
 use Rattle.check_command.specs.declared.end.CheckEnd.{CheckEnd}
 use Rattle.check_command.specs.declared.end.CheckEnd.TheVariants as Check
 use Rattle.gen_command.specs.declared.end.GenEnd.{GenEnd}
 use Rattle.gen_command.specs.declared.end.GenEnd.TheVariants as Gen
+use Rattle.server.specs.declared.worker.WorkFault.{WorkFault}
+use Rattle.server.specs.declared.worker.WorkFault.TheVariants as Work
 use Rattle.askrened.specs.declared.status.Status.{Status}
-use Rattle.askrened.specs.declared.status.Status.TheVariants.{Ok, Usage, MapRefused, ReadFault, WriteFault, NoMemory, CheckNo, SessionFull, Long}
+use Rattle.askrened.specs.declared.status.Status.TheVariants.{Ok, Usage, MapRefused, ReadFault, WriteFault, NoMemory, CheckNo, SessionFull, Long, BindFault, AcceptFault}
 
 abbrev pub code_of : Status → ℕ
 code_of Ok = 0
@@ -19,6 +22,8 @@ code_of NoMemory = 6
 code_of (CheckNo line readable) = 7
 code_of SessionFull = 8
 code_of Long = 9
+code_of (AcceptFault worker) = 10
+code_of BindFault = 13
 
 -- the status of a session's end
 abbrev pub session_status : SessionEnd → Status
@@ -43,3 +48,23 @@ abbrev pub gen_status : GenEnd → Status
 gen_status Gen.Done = Ok
 gen_status Gen.WriteFault = WriteFault
 gen_status Gen.NoMemory = NoMemory
+
+-- the worker whose acceptor failed, if the fault is one of an acceptor
+abbrev pub accept_of : WorkFault → Option ℕ
+accept_of (Work.Accept worker) = Some worker
+accept_of (Work.NoMemory worker) = None
+
+-- the worker of the first fault of an acceptor
+abbrev pub first_accept : List WorkFault → Option ℕ
+first_accept [] = None
+first_accept (fault ∷ faults) = option_or (accept_of fault) (first_accept faults)
+
+-- the status of workers with these faults, if the first fault of an acceptor is known
+abbrev pub accept_status : Option ℕ → List WorkFault → Status
+accept_status (Some worker) faults = AcceptFault worker
+accept_status None [] = Ok
+accept_status None (fault ∷ faults) = NoMemory
+
+-- the status of served connections
+abbrev pub served_status : List WorkFault → Status
+served_status faults = accept_status (first_accept faults) faults

@@ -8,11 +8,14 @@ const HELP: &str = "askrened: a route service for Lightning payers
 askrened ask [--map FILE] [--local FILE]    serves the request lines of standard input
 askrened check                              checks the certificate on standard input
 askrened gen NUMBER NODES CHANNELS ASKS     serves requests that it makes itself, and adds up the replies
+askrened serve --socket PATH --connections NUMBER [--workers NUMBER] [--map FILE] [--local FILE]
+                                            serves the request lines of connections to a socket
 askrened COMMAND --help                     tells more of a command
 askrened --version                          tells the version
 
 Exit statuses: 0 all was read and answered, 2 the words are no command, 3 a file is refused, 4 a read failed, 5 a write
-failed, 6 out of memory, 7 the certificate does not show what it claims, 8 too many lines, 9 too long.
+failed, 6 out of memory, 7 the certificate does not show what it claims, 8 too many lines, 9 too long, 10 a connection
+could not be accepted, 13 the socket could not be bound.
 ";
 
 const ASK_HELP: &str = "askrened ask [--map FILE] [--local FILE]
@@ -53,6 +56,24 @@ ASKS        0 to 10000
 Exit statuses: 0 all requests were answered, 2 the words are no command, 5 the write failed, 6 out of memory.
 ";
 
+const SERVE_HELP: &str =
+    "askrened serve --socket PATH --connections NUMBER [--workers NUMBER] [--map FILE] [--local FILE]
+
+Binds a Unix socket, serves so many connections to it, and ends. Each worker accepts a connection, serves its request lines to
+their end, and accepts the next one. Layers and reservations are those of all connections. Nothing is written to standard output.
+
+--socket PATH           where the socket is bound; only its owner may connect. A socket that a program left there is replaced
+--connections NUMBER    1 to 65000
+--workers NUMBER        1 to 64; 4 if absent
+--map FILE              the channels of the network, in the form of Core Lightning's listchannels
+--local FILE            the channels of the node itself, in the same form
+
+Each option may be given once, in any order. The limits on lines, sessions and files are those of askrened ask.
+
+Exit statuses: 0 all connections were served, 2 the words are no command, 3 a file is refused, 4 a read failed, 6 out of memory,
+10 a connection could not be accepted, 13 the socket could not be bound.
+";
+
 /// The text that these words alone ask for, if they ask for help or for the version.
 pub fn help_for(words: &[String]) -> Option<&'static str> {
     match words {
@@ -75,6 +96,7 @@ fn command_help(command: &str) -> Option<&'static str> {
         "ask" => Some(ASK_HELP),
         "check" => Some(CHECK_HELP),
         "gen" => Some(GEN_HELP),
+        "serve" => Some(SERVE_HELP),
         _ => None,
     }
 }

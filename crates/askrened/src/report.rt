@@ -1,4 +1,4 @@
-//! What standard error says of words that are no command, and of a file that is refused.
+//! What standard error says of words that are no command, of a file that is refused, and of a socket that fails.
 use crate::status::Status;
 use crate::words::{Task, matches_in, read_words};
 use channel_map::{Field, MapFault};
@@ -6,11 +6,15 @@ use plan_base::NoMemory;
 use std::alloc::{AllocGlobal, Global};
 use std::io::{Eprint, Print};
 
-/// Says why a run of these words ended, if it is a matter of the words or of a file that they name.
+/// Says why a run of these words ended, if it is a matter of the words, of a file that they name, or of the socket.
 pub fn report<R: AllocGlobal + Print + Eprint>(rt: &R, words: &[String], status: &Status) {
     match status {
         Status::Usage => report_words(rt, words),
         Status::MapRefused { local, fault } => report_file(rt, words, *local, fault),
+        Status::BindFault => report_bind(rt, words),
+        Status::AcceptFault { worker } => {
+            let _written = eprintln!(rt; "askrened: worker {worker} could not accept a connection");
+        }
         _ => (),
     }
 }
@@ -28,12 +32,23 @@ fn report_words<R: AllocGlobal + Print + Eprint>(rt: &R, words: &[String]) {
 }
 
 fn report_file<R: AllocGlobal + Eprint>(rt: &R, words: &[String], local: bool, fault: &MapFault) {
-    let Ok(Task::Ask { map, local: other }) = read_words(rt.alloc(), words) else {
-        return;
+    let (map, other) = match read_words(rt.alloc(), words) {
+        Ok(Task::Ask { map, local }) => (map, local),
+        Ok(Task::Serve { map, local, .. }) => (map, local),
+        _ => return,
     };
     let name = if local { other } else { map };
     if let (Some(name), Ok(text)) = (name, fault_text(rt.alloc(), fault)) {
         let _written = eprintln!(rt; "askrened: {name}: {text}");
+    }
+}
+
+fn report_bind<R: AllocGlobal + Eprint>(rt: &R, words: &[String]) {
+    if let Ok(Task::Serve { service, .. }) = read_words(rt.alloc(), words) {
+        let _written = eprintln!(rt;
+            "askrened: {}: the socket could not be bound",
+            service.socket
+        );
     }
 }
 

@@ -5,7 +5,7 @@ ghost use Rattle.channel_map.specs.declared.fault.MapFault.{MapFault};
 ghost use Rattle.port_io.specs.Faults.{Rose};
 ghost use Rattle.session.specs.Session.{IsServable};
 ghost use Rattle.gen_command.specs.Size.{IsSize};
-ghost use Rattle.askrened.specs.Form.{Invocation, Bytes, invocation_of, IfAsks, IfChecks, IfGenerates, AreRefused};
+ghost use Rattle.askrened.specs.Form.{Invocation, Bytes, invocation_of, IfAsks, IfChecks, IfGenerates, AreRefused, AsksForOther, AsksToServe};
 ghost use Rattle.askrened.specs.Load.{IsKnownGood, TellsFiles};
 ghost use Rattle.askrened.specs.Run.{IsAsk, IsServed, IsChecking, IsGenerating, AskEndsWell, CheckEndsWell, GenEndsWell, IsCheckable};
 ghost use Rattle.askrened.specs.Words.{IsPlain, spelling_of};
@@ -25,9 +25,9 @@ use std::alloc::Global;
 
 /// Runs the command that the words after the program's name ask for. `ask` loads the map and the local file, and serves the
 /// lines of the input from an empty history on, with routes over these files; `check` writes one line on the certificate of
-/// the input; `gen` serves a workload in memory, and writes one line with the totals of its replies. The files stay as they
-/// are.
-#[tactic(auto, using(crate::proofs::Asking::refused_asks_none, crate::proofs::Asking::if_asks, crate::proofs::Asking::if_checks, crate::proofs::Asking::asks_checks, crate::proofs::Asking::checks_asks, crate::proofs::Asking::if_asks_all, crate::proofs::Asking::if_checks_all, crate::proofs::Asking::if_generates, crate::proofs::Asking::asks_generates, crate::proofs::Asking::checks_generates, crate::proofs::Asking::generates_asks, crate::proofs::Asking::generates_checks, crate::proofs::Asking::if_generates_all, crate::proofs::Ends::no_memory_is_ask, crate::proofs::Spelled::plain_is_taken))]
+/// the input; `gen` serves a workload in memory, and writes one line with the totals of its replies. For `serve` the status is
+/// `Usage`, as for words that the form refuses. The files stay as they are.
+#[tactic(auto, using(crate::proofs::Asking::refused_asks_none, crate::proofs::Asking::if_asks, crate::proofs::Asking::if_checks, crate::proofs::Asking::asks_checks, crate::proofs::Asking::checks_asks, crate::proofs::Asking::if_asks_all, crate::proofs::Asking::if_checks_all, crate::proofs::Asking::if_generates, crate::proofs::Asking::asks_generates, crate::proofs::Asking::checks_generates, crate::proofs::Asking::generates_asks, crate::proofs::Asking::generates_checks, crate::proofs::Asking::if_generates_all, crate::proofs::Asking::serves_asks, crate::proofs::Asking::serves_checks, crate::proofs::Asking::serves_generates, crate::proofs::Asking::serves_asked, crate::proofs::Ends::no_memory_is_ask, crate::proofs::Spelled::plain_is_taken, crate::proofs::Spelled::plain_other_is_not_to_serve))]
 pub fn run<P: Places, I: Source, O: Sink, C: Clock>(
     alloc: Global,
     words: &[String],
@@ -36,12 +36,14 @@ pub fn run<P: Places, I: Source, O: Sink, C: Clock>(
     output: &mut O,
     clock: &mut C,
 ) -> Status
-    ensures usage { result ≡ Status.Usage → AreRefused (map string_bytes words.now) }
+    ensures usage { result ≡ Status.Usage → AreRefused (map string_bytes words.now) ⊎ AsksToServe (invocation_of (map string_bytes words.now)) }
     ensures refused { AreRefused (map string_bytes words.now) → (result ≡ Status.Usage) ⊎ (result ≡ Status.NoMemory) }
-    ensures refused_leaves { AreRefused (map string_bytes words.now)
+    ensures to_serve { AsksToServe (invocation_of (map string_bytes words.now)) → (result ≡ Status.Usage) ⊎ (result ≡ Status.NoMemory) }
+    ensures refused_leaves { AreRefused (map string_bytes words.now) ⊎ AsksToServe (invocation_of (map string_bytes words.now))
         → (places.new ≡ places.old) × (input.new ≡ input.old) × (output.new ≡ output.old) × (clock.new ≡ clock.old) }
-    ensures spelled { (wanted : Invocation) → IsPlain wanted → map string_bytes words.now ≡ spelling_of wanted
+    ensures spelled { (wanted : Invocation) → IsPlain wanted → AsksForOther (Some wanted) → map string_bytes words.now ≡ spelling_of wanted
         → result ≢ Status.Usage }
+    ensures never_bound { (result ≢ Status.BindFault) × ((worker : ℕ) → result ≢ Status.AcceptFault worker) }
     ensures session { IfAsks (invocation_of (map string_bytes words.now)) (λ map_name local_name. IsAsk (P.file places.old) map_name local_name result (record {
       input = I.left input.old;
       rest = I.left input.new;
@@ -98,6 +100,7 @@ pub fn run<P: Places, I: Source, O: Sink, C: Clock>(
         Ok(Task::Ask { map, local }) => ask(alloc, map, local, places, input, output, clock),
         Ok(Task::Check) => check_input(alloc, input, output),
         Ok(Task::Gen { size }) => serve_workload(alloc, size, output, clock),
+        Ok(Task::Serve { .. }) => Status::Usage,
     }
 }
 
@@ -204,9 +207,10 @@ fn serve_over<I: Source, O: Sink, C: Clock>(
 }
 
 // Checks the certificate of the input.
-#[tactic(auto, using(crate::proofs::Ends::check_ends_well, crate::proofs::Ends::check_is_no_usage, crate::proofs::Ends::check_loads_nothing))]
+#[tactic(auto, using(crate::proofs::Ends::check_ends_well, crate::proofs::Ends::check_is_no_usage, crate::proofs::Ends::check_is_never_bound, crate::proofs::Ends::check_loads_nothing))]
 fn check_input<I: Source, O: Sink>(alloc: Global, input: &mut I, output: &mut O) -> Status
     ensures other { result ≢ Status.Usage }
+    ensures never_bound { (result ≢ Status.BindFault) × ((worker : ℕ) → result ≢ Status.AcceptFault worker) }
     ensures not_refused { (local : Bool) (fault : MapFault) → result ≢ Status.MapRefused local fault }
     ensures check { (clock ticked : Option (List ℕ)) → IsChecking result (record {
       input = I.left input.old;
@@ -226,7 +230,7 @@ fn check_input<I: Source, O: Sink>(alloc: Global, input: &mut I, output: &mut O)
 }
 
 // Serves a workload in memory, and writes the totals of its replies. Neither the input nor a file is read.
-#[tactic(auto, using(crate::proofs::Ends::gen_is_generating, crate::proofs::Ends::gen_ends_well, crate::proofs::Ends::gen_is_no_usage, crate::proofs::Ends::gen_reads_nothing, crate::proofs::Ends::gen_loads_nothing))]
+#[tactic(auto, using(crate::proofs::Ends::gen_is_generating, crate::proofs::Ends::gen_ends_well, crate::proofs::Ends::gen_is_no_usage, crate::proofs::Ends::gen_is_never_bound, crate::proofs::Ends::gen_reads_nothing, crate::proofs::Ends::gen_loads_nothing))]
 fn serve_workload<O: Sink, C: Clock>(
     alloc: Global,
     size: Size,
@@ -235,6 +239,7 @@ fn serve_workload<O: Sink, C: Clock>(
 ) -> Status
     requires { IsSize size }
     ensures other { result ≢ Status.Usage }
+    ensures never_bound { (result ≢ Status.BindFault) × ((worker : ℕ) → result ≢ Status.AcceptFault worker) }
     ensures nothing_read { result ≢ Status.ReadFault }
     ensures not_refused { (local : Bool) (fault : MapFault) → result ≢ Status.MapRefused local fault }
     ensures summary { (input rest : Option (List ℕ)) → IsGenerating result (record {

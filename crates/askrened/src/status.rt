@@ -28,6 +28,10 @@ pub enum Status {
     SessionFull,
     /// A line, or the whole input of a check, is too long.
     Long,
+    /// The socket could not be bound.
+    BindFault,
+    /// A worker could not accept a connection: the first one that failed so.
+    AcceptFault { worker: u32 },
 }
 
 impl Status {
@@ -45,6 +49,8 @@ impl Status {
             Status::CheckNo { .. } => 7,
             Status::SessionFull => 8,
             Status::Long => 9,
+            Status::AcceptFault { .. } => 10,
+            Status::BindFault => 13,
         }
     }
 }
