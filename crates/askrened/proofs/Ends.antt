@@ -22,9 +22,9 @@ use Rattle.channel_map.specs.declared.fault.MapFault.TheVariants as Fault
 use Rattle.channel_map.specs.Reading.{Reading, map_reading, local_reading, IsMapFault}
 use Rattle.askrened.specs.Form.{Bytes}
 use Rattle.askrened.specs.Load.{Files, Reader, IsAccepted, IsGood, IsGoodFile, IsKnownGood, IsLoadedAs, IsFaultOf, IsRefusedFor, IsLoadFault, TellsFiles}
-use Rattle.askrened.specs.Run.{RunSpan, IsServing, IsServed, IsAsking, IsAsk, AskEndsWell, CheckEndsWell, GenEndsWell, IsCheckable, IsGenOf, IsGenerating}
+use Rattle.askrened.specs.Run.{RunSpan, IsServing, IsServed, IsAsking, IsAsk, CheckEndsWell, IsCheckable, IsGenOf, IsGenerating}
 use Rattle.askrened.proofs.Loads.{loaded_is_good}
-use Rattle.askrened.specs.Status.{session_status, check_status, gen_status}
+use Rattle.askrened.specs.Status.{IsGoodEnd, session_status, check_status, gen_status}
 
 -- no memory for the journal
 pub no_session : (channels locals : List Edge) (input output clock : Option (List ℕ))
@@ -38,7 +38,7 @@ pub no_memory_is_ask : (files : Files) (map local : Option Bytes) (input output 
     → IsAsk files map local NoMemory (record { input = input; rest = input; output = output; written = output; clock = clock; ticked = clock })
 no_memory_is_ask files map local input output clock = inl (refl, refl, refl)
 
-status_ends_well : (end : SessionEnd) → EndsWell end → AskEndsWell (session_status end)
+status_ends_well : (end : SessionEnd) → EndsWell end → IsGoodEnd (session_status end)
 status_ends_well Session.Done well = tt
 status_ends_well Session.NoMemory well = tt
 status_ends_well Session.ReadFault well = absurd well
@@ -48,7 +48,7 @@ status_ends_well Session.Long well = absurd well
 
 pub ask_ends_well : (told : Option (List ℕ)) (Reads Writes : Type 0) (end : SessionEnd)
     → IfSome told (λ bytes. IsServable bytes → (Reads → ⊥) → (Writes → ⊥) → EndsWell end)
-    → IfSome told (λ bytes. IsServable bytes → (Reads → ⊥) → (Writes → ⊥) → AskEndsWell (session_status end))
+    → IfSome told (λ bytes. IsServable bytes → (Reads → ⊥) → (Writes → ⊥) → IsGoodEnd (session_status end))
 ask_ends_well None Reads Writes end well = tt
 ask_ends_well (Some bytes) Reads Writes end well = λ servable reads writes. status_ends_well end (well servable reads writes)
 
@@ -85,7 +85,7 @@ check_is_never_bound Checks.WriteFault = (λ same. cc, λ worker same. cc)
 check_is_never_bound Checks.Long = (λ same. cc, λ worker same. cc)
 
 -- no memory is a good end
-pub no_session_ends_well : (told : Option (List ℕ)) (Reads Writes : Type 0) → IfSome told (λ bytes. IsServable bytes → (Reads → ⊥) → (Writes → ⊥) → AskEndsWell NoMemory)
+pub no_session_ends_well : (told : Option (List ℕ)) (Reads Writes : Type 0) → IfSome told (λ bytes. IsServable bytes → (Reads → ⊥) → (Writes → ⊥) → IsGoodEnd NoMemory)
 no_session_ends_well None Reads Writes = tt
 no_session_ends_well (Some bytes) Reads Writes = λ servable reads writes. tt
 
@@ -103,7 +103,7 @@ gen_is_generating Gen.Done span size is = is
 gen_is_generating Gen.WriteFault span size is = is
 gen_is_generating Gen.NoMemory span size is = is
 
-pub gen_ends_well : (end : GenEnd) (Writes : Type 0) → (end ≡ Gen.WriteFault → Writes) → (Writes → ⊥) → GenEndsWell (gen_status end)
+pub gen_ends_well : (end : GenEnd) (Writes : Type 0) → (end ≡ Gen.WriteFault → Writes) → (Writes → ⊥) → IsGoodEnd (gen_status end)
 gen_ends_well Gen.Done Writes writes no_write = tt
 gen_ends_well Gen.NoMemory Writes writes no_write = tt
 gen_ends_well Gen.WriteFault Writes writes no_write = no_write (writes refl)
@@ -210,12 +210,12 @@ known_not : (reader : Reader) (known : Option Bytes) (fault : MapFault) → IsSo
 known_not reader None fault good other refused = good
 known_not reader (Some bytes) fault good other refused = fault_not reader bytes fault good refused other
 
-pub good_is_not_refused : (reader : Reader) (files : Files) (name : Option Bytes) (fault : MapFault) → IsKnownGood reader files name → IsRefusedFor reader files name fault → ⊥
+good_is_not_refused : (reader : Reader) (files : Files) (name : Option Bytes) (fault : MapFault) → IsKnownGood reader files name → IsRefusedFor reader files name fault → ⊥
 good_is_not_refused reader files None fault good refused = refused
 good_is_not_refused reader files (Some name) fault good refused = known_not reader (files name) fault good refused.0 refused.1
 
-load_ends_well : (files : Files) (map local : Option Bytes) (status : Status) (Opens : Type 0) → IsLoadFault status → TellsFiles files map local status → (status ≡ ReadFault → Opens)
-    → IsKnownGood map_reading files map → IsKnownGood local_reading files local → (Opens → ⊥) → AskEndsWell status
+pub load_ends_well : (files : Files) (map local : Option Bytes) (status : Status) (Opens : Type 0) → IsLoadFault status → TellsFiles files map local status → (status ≡ ReadFault → Opens)
+    → IsKnownGood map_reading files map → IsKnownGood local_reading files local → (Opens → ⊥) → IsGoodEnd status
 load_ends_well files map local (MapRefused false fault) Opens is tells opens one two closed = absurd (good_is_not_refused map_reading files map fault one tells)
 load_ends_well files map local (MapRefused true fault) Opens is tells opens one two closed = absurd (good_is_not_refused local_reading files local fault two tells.1)
 load_ends_well files map local ReadFault Opens is tells opens one two closed = absurd (closed (opens refl))
@@ -231,7 +231,7 @@ load_ends_well files map local (AcceptFault worker) Opens is tells opens one two
 
 pub load_fault_ends_well : (files : Files) (map local : Option Bytes) (status : Status) (told : Option (List ℕ)) (Opens Reads Writes : Type 0) → IsLoadFault status
     → TellsFiles files map local status → (status ≡ ReadFault → Opens) → IsKnownGood map_reading files map → IsKnownGood local_reading files local
-    → IfSome told (λ bytes. IsServable bytes → (Opens → ⊥) → (Reads → ⊥) → (Writes → ⊥) → AskEndsWell status)
+    → IfSome told (λ bytes. IsServable bytes → (Opens → ⊥) → (Reads → ⊥) → (Writes → ⊥) → IsGoodEnd status)
 load_fault_ends_well files map local status None Opens Reads Writes is tells opens one two = tt
 load_fault_ends_well files map local status (Some bytes) Opens Reads Writes is tells opens one two = λ servable no_open no_read no_write.
     load_ends_well files map local status Opens is tells opens one two no_open

@@ -15,11 +15,10 @@ use Rattle.askrened.specs.declared.status.Status.{Status}
 use Rattle.askrened.specs.declared.status.Status.TheVariants.{Ok, Usage, MapRefused, ReadFault, WriteFault, NoMemory, CheckNo, SessionFull, Long, BindFault, AcceptFault}
 use Rattle.askrened.specs.Form.{Bytes}
 use Rattle.askrened.specs.Load.{Files, IsGood, IsKnownGood, IsLoadedAs, IsLoadFault, TellsFiles}
-use Rattle.askrened.specs.Serving.{IsUnserved, NoneFailed, ServeEndsWell}
+use Rattle.askrened.specs.Serving.{IsUnserved, NoneFailed}
 use Rattle.askrened.specs.ServingSteps.{LoadsNothing}
-use Rattle.askrened.specs.Status.{accept_of, accept_status, first_accept, served_status}
+use Rattle.askrened.specs.Status.{IsGoodEnd, accept_of, accept_status, first_accept, served_status}
 use Rattle.askrened.proofs.Loads.{loaded_is_good}
-use Rattle.askrened.proofs.Ends.{good_is_not_refused}
 
 -- ---- the status of faults
 
@@ -55,12 +54,12 @@ module _ (faults : List WorkFault) (i : ℕ) (d : WorkFault) (within : i < lengt
   pub accept_later : accept_of (get_or faults i d) ≡ None → first_accept (drop (i + 1) faults) ≡ first_accept faults
   accept_later same = ap (λ first. option_or first (first_accept (drop (i + 1) faults))) (sym same) ∙ at_fault
 
-status_ends_well : (faults : List WorkFault) → ServeEndsWell (accept_status None faults)
+status_ends_well : (faults : List WorkFault) → IsGoodEnd (accept_status None faults)
 status_ends_well [] = tt
 status_ends_well (fault ∷ faults) = tt
 
-pub served_ends_well : (faults : List WorkFault) → All IsOutOfMemory faults → ServeEndsWell (served_status faults)
-served_ends_well faults all = subst (λ first. ServeEndsWell (accept_status first faults)) (sym (no_accept faults all)) (status_ends_well faults)
+pub served_ends_well : (faults : List WorkFault) → All IsOutOfMemory faults → IsGoodEnd (served_status faults)
+served_ends_well faults all = subst (λ first. IsGoodEnd (accept_status first faults)) (sym (no_accept faults all)) (status_ends_well faults)
 
 -- no count rose from 0
 module _ {A C : Type 0} (count : A → ℕ) where
@@ -116,18 +115,3 @@ load_fault_is_no_usage status is same = subst IsLoadFault same is
 
 pub load_fault_is_not_bound : (status : Status) → IsLoadFault status → status ≢ BindFault
 load_fault_is_not_bound status is same = subst IsLoadFault same is
-
-pub load_serve_ends_well : (files : Files) (map local : Option Bytes) (status : Status) (Opens : Type 0) → IsLoadFault status → TellsFiles files map local status → (status ≡ ReadFault → Opens)
-    → IsKnownGood map_reading files map → IsKnownGood local_reading files local → (Opens → ⊥) → ServeEndsWell status
-load_serve_ends_well files map local (MapRefused false fault) Opens is tells opens one two closed = absurd (good_is_not_refused map_reading files map fault one tells)
-load_serve_ends_well files map local (MapRefused true fault) Opens is tells opens one two closed = absurd (good_is_not_refused local_reading files local fault two tells.1)
-load_serve_ends_well files map local ReadFault Opens is tells opens one two closed = absurd (closed (opens refl))
-load_serve_ends_well files map local NoMemory Opens is tells opens one two closed = tt
-load_serve_ends_well files map local Ok Opens is tells opens one two closed = absurd is
-load_serve_ends_well files map local Usage Opens is tells opens one two closed = absurd is
-load_serve_ends_well files map local WriteFault Opens is tells opens one two closed = absurd is
-load_serve_ends_well files map local (CheckNo line readable) Opens is tells opens one two closed = absurd is
-load_serve_ends_well files map local SessionFull Opens is tells opens one two closed = absurd is
-load_serve_ends_well files map local Long Opens is tells opens one two closed = absurd is
-load_serve_ends_well files map local BindFault Opens is tells opens one two closed = absurd is
-load_serve_ends_well files map local (AcceptFault worker) Opens is tells opens one two closed = absurd is

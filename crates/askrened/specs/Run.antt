@@ -93,20 +93,6 @@ IsChecking SessionFull span = ⊥
 IsChecking BindFault span = ⊥
 IsChecking (AcceptFault worker) span = ⊥
 
--- nothing outside the program kept a session from its end
-abbrev pub AskEndsWell : Status → Type 0
-AskEndsWell Ok = ⊤
-AskEndsWell NoMemory = ⊤
-AskEndsWell Usage = ⊥
-AskEndsWell (MapRefused local fault) = ⊥
-AskEndsWell ReadFault = ⊥
-AskEndsWell WriteFault = ⊥
-AskEndsWell (CheckNo line readable) = ⊥
-AskEndsWell SessionFull = ⊥
-AskEndsWell Long = ⊥
-AskEndsWell BindFault = ⊥
-AskEndsWell (AcceptFault worker) = ⊥
-
 -- nothing outside the program kept a check from its verdict
 abbrev pub CheckEndsWell : Status → Type 0
 CheckEndsWell Ok = ⊤
@@ -141,17 +127,3 @@ IsGenerating SessionFull span size = ⊥
 IsGenerating Long span size = ⊥
 IsGenerating BindFault span size = ⊥
 IsGenerating (AcceptFault worker) span size = ⊥
-
--- nothing outside the program kept a workload from its summary
-abbrev pub GenEndsWell : Status → Type 0
-GenEndsWell Ok = ⊤
-GenEndsWell NoMemory = ⊤
-GenEndsWell Usage = ⊥
-GenEndsWell (MapRefused local fault) = ⊥
-GenEndsWell ReadFault = ⊥
-GenEndsWell WriteFault = ⊥
-GenEndsWell (CheckNo line readable) = ⊥
-GenEndsWell SessionFull = ⊥
-GenEndsWell Long = ⊥
-GenEndsWell BindFault = ⊥
-GenEndsWell (AcceptFault worker) = ⊥

@@ -52,20 +52,6 @@ module _ {A C : Type 0} (faults accepted : A → ℕ) where
     pub accept_cause : All (HasRisenCount faults given served.workers.items) served.faults.items
     pub accept_sum : All (HasRisenSum faults given served.workers.items) served.faults.items
 
--- nothing outside the program kept connections from being served
-abbrev pub ServeEndsWell : Status → Type 0
-ServeEndsWell Ok = ⊤
-ServeEndsWell NoMemory = ⊤
-ServeEndsWell Usage = ⊥
-ServeEndsWell (MapRefused local fault) = ⊥
-ServeEndsWell ReadFault = ⊥
-ServeEndsWell WriteFault = ⊥
-ServeEndsWell (CheckNo line readable) = ⊥
-ServeEndsWell SessionFull = ⊥
-ServeEndsWell Long = ⊥
-ServeEndsWell BindFault = ⊥
-ServeEndsWell (AcceptFault worker) = ⊥
-
 -- the statuses of a service that did not begin
 abbrev pub IsUnserved : Status → Type 0
 IsUnserved Usage = ⊤

@@ -1,5 +1,5 @@
 -- The exit status of each way in which the program ends.
-use Rattle.std.specs.Prelude.{ℕ, List, [], ◌∷◌, Option, Some, None}
+use Rattle.std.specs.Prelude.{ℕ, List, [], ◌∷◌, Option, Some, None, ⊤}
 use Rattle.std.specs.Option.{option_or}
 use Rattle.port_io.specs.declared.session_end.SessionEnd.{SessionEnd}
 use Rattle.port_io.specs.declared.session_end.SessionEnd.TheVariants as Session
@@ -68,3 +68,17 @@ accept_status None (fault ∷ faults) = NoMemory
 -- the status of served connections
 abbrev pub served_status : List WorkFault → Status
 served_status faults = accept_status (first_accept faults) faults
+
+-- nothing outside the program kept a session, a workload or a service from its end
+abbrev pub IsGoodEnd : Status → Type 0
+IsGoodEnd Ok = ⊤
+IsGoodEnd NoMemory = ⊤
+IsGoodEnd Usage = ⊥
+IsGoodEnd (MapRefused local fault) = ⊥
+IsGoodEnd ReadFault = ⊥
+IsGoodEnd WriteFault = ⊥
+IsGoodEnd (CheckNo line readable) = ⊥
+IsGoodEnd SessionFull = ⊥
+IsGoodEnd Long = ⊥
+IsGoodEnd BindFault = ⊥
+IsGoodEnd (AcceptFault worker) = ⊥

@@ -7,7 +7,8 @@ ghost use Rattle.session.specs.Session.{IsServable};
 ghost use Rattle.gen_command.specs.Size.{IsSize};
 ghost use Rattle.askrened.specs.Form.{Invocation, Bytes, invocation_of, IfAsks, IfChecks, IfGenerates, AreRefused, AsksForOther, AsksToServe};
 ghost use Rattle.askrened.specs.Load.{IsKnownGood, TellsFiles};
-ghost use Rattle.askrened.specs.Run.{IsAsk, IsServed, IsChecking, IsGenerating, AskEndsWell, CheckEndsWell, GenEndsWell, IsCheckable};
+ghost use Rattle.askrened.specs.Run.{IsAsk, IsServed, IsChecking, IsGenerating, CheckEndsWell, IsCheckable};
+ghost use Rattle.askrened.specs.Status.{IsGoodEnd};
 ghost use Rattle.askrened.specs.Words.{IsPlain, spelling_of};
 
 use crate::load::load;
@@ -62,7 +63,7 @@ pub fn run<P: Places, I: Source, O: Sink, C: Clock>(
         → IfSome (I.left input.old) (λ bytes. IsServable bytes
         → (Rose (P.place_faults places.old) (P.place_faults places.new) → ⊥)
         → (Rose (I.read_faults input.old) (I.read_faults input.new) → ⊥)
-        → (Rose (O.write_faults output.old) (O.write_faults output.new) → ⊥) → AskEndsWell result)) }
+        → (Rose (O.write_faults output.old) (O.write_faults output.new) → ⊥) → IsGoodEnd result)) }
     ensures check { IfChecks (invocation_of (map string_bytes words.now)) (IsChecking result (record {
       input = I.left input.old;
       rest = I.left input.new;
@@ -85,7 +86,7 @@ pub fn run<P: Places, I: Source, O: Sink, C: Clock>(
       ticked = C.moments clock.new;
     })) }
     ensures gen_complete { IfGenerates (invocation_of (map string_bytes words.now)) (λ size.
-        (Rose (O.write_faults output.old) (O.write_faults output.new) → ⊥) → GenEndsWell result) }
+        (Rose (O.write_faults output.old) (O.write_faults output.new) → ⊥) → IsGoodEnd result) }
     ensures gen_leaves { IfGenerates (invocation_of (map string_bytes words.now)) (λ size.
         (places.new ≡ places.old) × (input.new ≡ input.old)) }
     ensures read_fault { result ≡ Status.ReadFault → Rose (I.read_faults input.old) (I.read_faults input.new)
@@ -134,7 +135,7 @@ fn ask<P: Places, I: Source, O: Sink, C: Clock>(
         → IfSome (I.left input.old) (λ bytes. IsServable bytes
         → (Rose (P.place_faults places.old) (P.place_faults places.new) → ⊥)
         → (Rose (I.read_faults input.old) (I.read_faults input.new) → ⊥)
-        → (Rose (O.write_faults output.old) (O.write_faults output.new) → ⊥) → AskEndsWell result) }
+        → (Rose (O.write_faults output.old) (O.write_faults output.new) → ⊥) → IsGoodEnd result) }
     ensures read_fault { result ≡ Status.ReadFault → Rose (I.read_faults input.old) (I.read_faults input.new)
         ⊎ Rose (P.place_faults places.old) (P.place_faults places.new) }
     ensures write_fault { result ≡ Status.WriteFault → Rose (O.write_faults output.old) (O.write_faults output.new) }
@@ -166,7 +167,7 @@ fn serve<I: Source, O: Sink, C: Clock>(
     }) }
     ensures complete { IfSome (I.left input.old) (λ bytes. IsServable bytes
         → (Rose (I.read_faults input.old) (I.read_faults input.new) → ⊥)
-        → (Rose (O.write_faults output.old) (O.write_faults output.new) → ⊥) → AskEndsWell result) }
+        → (Rose (O.write_faults output.old) (O.write_faults output.new) → ⊥) → IsGoodEnd result) }
     ensures read_fault { result ≡ Status.ReadFault → Rose (I.read_faults input.old) (I.read_faults input.new) }
     ensures write_fault { result ≡ Status.WriteFault → Rose (O.write_faults output.old) (O.write_faults output.new) }
 {
@@ -198,7 +199,7 @@ fn serve_over<I: Source, O: Sink, C: Clock>(
     }) }
     ensures complete { IfSome (I.left input.old) (λ bytes. IsServable bytes
         → (Rose (I.read_faults input.old) (I.read_faults input.new) → ⊥)
-        → (Rose (O.write_faults output.old) (O.write_faults output.new) → ⊥) → AskEndsWell result) }
+        → (Rose (O.write_faults output.old) (O.write_faults output.new) → ⊥) → IsGoodEnd result) }
     ensures read_fault { result ≡ Status.ReadFault → Rose (I.read_faults input.old) (I.read_faults input.new) }
     ensures write_fault { result ≡ Status.WriteFault → Rose (O.write_faults output.old) (O.write_faults output.new) }
 {
@@ -250,7 +251,7 @@ fn serve_workload<O: Sink, C: Clock>(
       clock = C.moments clock.old;
       ticked = C.moments clock.new;
     }) size }
-    ensures complete { (Rose (O.write_faults output.old) (O.write_faults output.new) → ⊥) → GenEndsWell result }
+    ensures complete { (Rose (O.write_faults output.old) (O.write_faults output.new) → ⊥) → IsGoodEnd result }
     ensures write_fault { result ≡ Status.WriteFault → Rose (O.write_faults output.old) (O.write_faults output.new) }
 {
     Status::from(generate(alloc, size, output, clock))

@@ -4,9 +4,9 @@ ghost use Rattle.channel_map.specs.declared.fault.MapFault.{MapFault};
 ghost use Rattle.port_io.specs.Faults.{Rose};
 ghost use Rattle.askrened.specs.Form.{Invocation, Bytes, invocation_of, AreRefused, AsksForOther, AsksToServe, IfServes};
 ghost use Rattle.askrened.specs.Load.{IsKnownGood, TellsFiles};
-ghost use Rattle.askrened.specs.Serving.{HasServed, IsUnserved, NoneFailed, ServeEndsWell, workers_or};
+ghost use Rattle.askrened.specs.Serving.{HasServed, IsUnserved, NoneFailed, workers_or};
 ghost use Rattle.askrened.specs.ServingSteps.{LoadsNothing};
-ghost use Rattle.askrened.specs.Status.{accept_of, first_accept, served_status};
+ghost use Rattle.askrened.specs.Status.{IsGoodEnd, accept_of, first_accept, served_status};
 ghost use Rattle.askrened.specs.Words.{IsPlain, IsService, service_by, spelling_of};
 
 use crate::load::load;
@@ -72,7 +72,7 @@ where
         → (Rose (P.place_faults places.old) (P.place_faults places.new) → ⊥)
         → (Rose (B.bind_faults bind.old) (B.bind_faults bind.new) → ⊥)
         → IfSome result.served (λ served. NoneFailed B.Acceptor.accept_faults served.workers.items)
-        → ServeEndsWell result.status) }
+        → IsGoodEnd result.status) }
     ensures files { (name : Bytes) → P.file places.new name ≡ P.file places.old name }
 {
     match read_words(alloc, words) {
@@ -102,7 +102,7 @@ fn unserved<A, C>(status: Status) -> Serving<A, C>
 }
 
 // Loads the files, and then serves the connections.
-#[tactic(auto, using(crate::proofs::ServingEnds::bound_tells, crate::proofs::ServingEnds::nothing_is_no_usage, crate::proofs::ServingEnds::nothing_reads_nothing, crate::proofs::ServingEnds::nothing_refuses_nothing, crate::proofs::ServingEnds::load_fault_is_unserved, crate::proofs::ServingEnds::load_fault_is_no_usage, crate::proofs::ServingEnds::load_fault_is_not_bound, crate::proofs::ServingEnds::load_serve_ends_well))]
+#[tactic(auto, using(crate::proofs::ServingEnds::bound_tells, crate::proofs::ServingEnds::nothing_is_no_usage, crate::proofs::ServingEnds::nothing_reads_nothing, crate::proofs::ServingEnds::nothing_refuses_nothing, crate::proofs::ServingEnds::load_fault_is_unserved, crate::proofs::ServingEnds::load_fault_is_no_usage, crate::proofs::ServingEnds::load_fault_is_not_bound, crate::proofs::Ends::load_ends_well))]
 fn load_and_serve<R: Threads + Wait + Sync, P: Places, B: Bind, G: Gate + Sync>(
     rt: &R,
     alloc: Global,
@@ -133,7 +133,7 @@ where
         → (Rose (P.place_faults places.old) (P.place_faults places.new) → ⊥)
         → (Rose (B.bind_faults bind.old) (B.bind_faults bind.new) → ⊥)
         → IfSome result.served (λ served. NoneFailed B.Acceptor.accept_faults served.workers.items)
-        → ServeEndsWell result.status }
+        → IsGoodEnd result.status }
     ensures files { (name : Bytes) → P.file places.new name ≡ P.file places.old name }
 {
     match load(alloc, places, map, local) {
@@ -165,7 +165,7 @@ where
     ensures status { IfSome result.served (λ served. result.status ≡ served_status served.faults.items) }
     ensures complete { (Rose (B.bind_faults bind.old) (B.bind_faults bind.new) → ⊥)
         → IfSome result.served (λ served. NoneFailed B.Acceptor.accept_faults served.workers.items)
-        → ServeEndsWell result.status }
+        → IsGoodEnd result.status }
 {
     let workers = workers_or_usual(service.workers);
     match bind.bind(alloc, service.socket, workers) {
