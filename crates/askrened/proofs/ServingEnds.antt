@@ -1,6 +1,6 @@
 -- What the end of served connections says, and what a load says before it.
 use Rattle.std.proofs.Common.{◌≡◌, ◌≢◌, ◌<◌, ◌+◌, ◌∙◌, ap, drop, get_or, ℕ, List, [], ◌∷◌, length, Option, Some, None, Bool, true, false, All, refl, sym, subst, arith, suc}
-use Rattle.std.specs.Prelude.{slice_index_or}
+use Rattle.std.specs.Prelude.{slice_index_or, IfSome}
 use Rattle.std.specs.Option.{option_or}
 use Rattle.std.proofs.lemmas.List.{at_drop_more}
 use Rattle.port_io.specs.Faults.{Rose}
@@ -10,12 +10,13 @@ use Rattle.channel_map.specs.declared.fault.MapFault.{MapFault}
 use Rattle.server.specs.declared.worker.Worker.{Worker}
 use Rattle.server.specs.declared.worker.WorkFault.{WorkFault}
 use Rattle.server.specs.declared.worker.WorkFault.TheVariants as Work
-use Rattle.serve_command.specs.Served.{IsOutOfMemory, NoneRose}
+use Rattle.serve_command.specs.Served.{AllHaveAnswered, IsOutOfMemory, NoneRose}
+use Rattle.serve_command.specs.declared.served.Served.{Served}
 use Rattle.askrened.specs.declared.status.Status.{Status}
 use Rattle.askrened.specs.declared.status.Status.TheVariants.{Ok, Usage, MapRefused, ReadFault, WriteFault, NoMemory, CheckNo, SessionFull, Long, BindFault, AcceptFault}
 use Rattle.askrened.specs.Form.{Bytes}
 use Rattle.askrened.specs.Load.{Files, IsGood, IsKnownGood, IsLoadedAs, IsLoadFault, TellsFiles}
-use Rattle.askrened.specs.Serving.{IsUnserved, NoneFailed}
+use Rattle.askrened.specs.Serving.{HaveAnsweredOver, IsUnserved, NoneFailed}
 use Rattle.askrened.specs.ServingSteps.{LoadsNothing}
 use Rattle.askrened.specs.Status.{IsGoodEnd, accept_of, accept_status, first_accept, served_status}
 use Rattle.askrened.proofs.Loads.{loaded_is_good}
@@ -115,3 +116,11 @@ load_fault_is_no_usage status is same = subst IsLoadFault same is
 
 pub load_fault_is_not_bound : (status : Status) → IsLoadFault status → status ≢ BindFault
 load_fault_is_not_bound status is same = subst IsLoadFault same is
+
+-- what the sessions have answered with, if any were served
+module _ {L C : Type 0} (left written : L → Option (List ℕ)) (moments : C → Option (List ℕ)) where
+  pub answered_over : {A D : Type 0} (files : Files) (map local : Option Bytes) (channels locals : List Edge) (served : Option (Served A D))
+      → IsLoadedAs map_reading files map channels → IsLoadedAs local_reading files local locals
+      → IfSome served (λ s. AllHaveAnswered left written moments channels locals s.sessions.items) → IfSome served (λ s. HaveAnsweredOver left written moments files map local s.sessions.items)
+  answered_over files map local channels locals None one two all = tt
+  answered_over files map local channels locals (Some s) one two all = record { channels = channels; locals = locals; map_loaded = one; local_loaded = two; answered = all }

@@ -2,15 +2,20 @@
 use Rattle.std.specs.Prelude.{◌≡◌, ◌+◌, ◌<◌, ◌≤◌, ⊤, ℕ, List, Option, Some, None, length, All}
 use Rattle.std.specs.List.Sorted.{IsStrictlyIncreasing}
 use Rattle.port_io.specs.Faults.{Rose}
+use Rattle.channel_map.specs.Reading.{local_reading, map_reading}
+use Rattle.channel_map.specs.declared.edge.Edge.{Edge}
 use Rattle.turn_desk.specs.Numbers.{AreDistinct}
+use Rattle.session.specs.Ended.{EndedSession}
+use Rattle.server.specs.declared.worker.Session.{Session}
 use Rattle.server.specs.Work.{HasAccepted, HasRisenCount, NoneFell, callers_of, fault_workers, session_numbers, worker_of}
 use Rattle.server.specs.declared.worker.Worker.{Worker}
-use Rattle.serve_command.specs.Served.{HasOwnEnd, HasRisenSum, HasSession, HasToldEntries}
+use Rattle.serve_command.specs.Served.{AllHaveAnswered, HasOwnEnd, HasRisenSum, HasSession, HasToldEntries}
 use Rattle.serve_command.specs.declared.served.Served.{Served}
 use Rattle.askrened.specs.declared.serve.TheConstants.{WORKERS}
 use Rattle.askrened.specs.declared.status.Status.{Status}
 use Rattle.askrened.specs.declared.status.Status.TheVariants.{Ok, Usage, MapRefused, ReadFault, WriteFault, NoMemory, CheckNo, SessionFull, Long, BindFault, AcceptFault}
-use Rattle.askrened.specs.Form.{Service}
+use Rattle.askrened.specs.Form.{Bytes, Service}
+use Rattle.askrened.specs.Load.{Files, IsLoadedAs}
 
 -- how many workers serve
 abbrev pub workers_or : ℕ → Option ℕ → ℕ
@@ -51,6 +56,15 @@ module _ {A C : Type 0} (faults accepted : A → ℕ) where
     pub fault_workers : All (λ f. worker_of f < length given) served.faults.items
     pub accept_cause : All (HasRisenCount faults given served.workers.items) served.faults.items
     pub accept_sum : All (HasRisenSum faults given served.workers.items) served.faults.items
+
+module _ {L C : Type 0} (left written : L → Option (List ℕ)) (moments : C → Option (List ℕ)) where
+  -- the map and the local file were loaded, and each session has answered with routes over them
+  pub record HaveAnsweredOver (files : Files) (map local : Option Bytes) (sessions : List (Session EndedSession)) : Type 0 where
+    pub channels : List Edge
+    pub locals : List Edge
+    pub map_loaded : IsLoadedAs map_reading files map channels
+    pub local_loaded : IsLoadedAs local_reading files local locals
+    pub answered : AllHaveAnswered left written moments channels locals sessions
 
 -- the statuses of a service that did not begin
 abbrev pub IsUnserved : Status → Type 0

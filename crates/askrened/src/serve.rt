@@ -2,9 +2,10 @@ ghost use Rattle.std.specs.Prelude.{◌≡◌, ◌≢◌, ◌⊎◌, ◌<◌, �
 ghost use Rattle.channel_map.specs.Reading.{map_reading, local_reading};
 ghost use Rattle.channel_map.specs.declared.fault.MapFault.{MapFault};
 ghost use Rattle.port_io.specs.Faults.{Rose};
+ghost use Rattle.serve_command.specs.Served.{AllHaveAnswered};
 ghost use Rattle.askrened.specs.Form.{Invocation, Bytes, invocation_of, AreRefused, AsksForOther, AsksToServe, IfServes};
 ghost use Rattle.askrened.specs.Load.{IsKnownGood, TellsFiles};
-ghost use Rattle.askrened.specs.Serving.{HasServed, IsUnserved, NoneFailed, workers_or};
+ghost use Rattle.askrened.specs.Serving.{HasServed, HaveAnsweredOver, IsUnserved, NoneFailed, workers_or};
 ghost use Rattle.askrened.specs.ServingSteps.{LoadsNothing};
 ghost use Rattle.askrened.specs.Status.{IsGoodEnd, accept_of, first_accept, served_status};
 ghost use Rattle.askrened.specs.Words.{IsPlain, IsService, service_by, spelling_of};
@@ -65,6 +66,8 @@ where
     ensures unserved { result.served ≡ None → IsUnserved result.status }
     ensures served { IfServes (invocation_of (map string_bytes words.now)) (λ service map_name local_name.
         IfSome result.served (HasServed B.Acceptor.accept_faults B.Acceptor.accepted service)) }
+    ensures answered { IfServes (invocation_of (map string_bytes words.now)) (λ service map_name local_name.
+        IfSome result.served (λ served. HaveAnsweredOver B.Acceptor.Link.left B.Acceptor.Link.written B.Clock.moments (P.file places.old) map_name local_name served.sessions.items)) }
     ensures status { IfSome result.served (λ served. result.status ≡ served_status served.faults.items) }
     ensures complete { IfServes (invocation_of (map string_bytes words.now)) (λ service map_name local_name.
         IsKnownGood map_reading (P.file places.old) map_name
@@ -102,7 +105,7 @@ fn unserved<A, C>(status: Status) -> Serving<A, C>
 }
 
 // Loads the files, and then serves the connections.
-#[tactic(auto, using(crate::proofs::ServingEnds::bound_tells, crate::proofs::ServingEnds::nothing_is_no_usage, crate::proofs::ServingEnds::nothing_reads_nothing, crate::proofs::ServingEnds::nothing_refuses_nothing, crate::proofs::ServingEnds::load_fault_is_unserved, crate::proofs::ServingEnds::load_fault_is_no_usage, crate::proofs::ServingEnds::load_fault_is_not_bound, crate::proofs::Ends::load_ends_well))]
+#[tactic(auto, using(crate::proofs::ServingEnds::bound_tells, crate::proofs::ServingEnds::nothing_is_no_usage, crate::proofs::ServingEnds::nothing_reads_nothing, crate::proofs::ServingEnds::nothing_refuses_nothing, crate::proofs::ServingEnds::load_fault_is_unserved, crate::proofs::ServingEnds::load_fault_is_no_usage, crate::proofs::ServingEnds::load_fault_is_not_bound, crate::proofs::Ends::load_ends_well, crate::proofs::ServingEnds::answered_over))]
 fn load_and_serve<R: Threads + Wait + Sync, P: Places, B: Bind, G: Gate + Sync>(
     rt: &R,
     alloc: Global,
@@ -127,6 +130,8 @@ where
     ensures bind_fault { result.status ≡ Status.BindFault → Rose (B.bind_faults bind.old) (B.bind_faults bind.new) }
     ensures unserved { result.served ≡ None → IsUnserved result.status }
     ensures served { IfSome result.served (HasServed B.Acceptor.accept_faults B.Acceptor.accepted (service_by service.now)) }
+    ensures answered { IfSome result.served (λ served. HaveAnsweredOver B.Acceptor.Link.left B.Acceptor.Link.written B.Clock.moments
+        (P.file places.old) (option_map (λ name. name.now) map.entry) (option_map (λ name. name.now) local.entry) served.sessions.items) }
     ensures status { IfSome result.served (λ served. result.status ≡ served_status served.faults.items) }
     ensures complete { IsKnownGood map_reading (P.file places.old) (option_map (λ name. name.now) map.entry)
         → IsKnownGood local_reading (P.file places.old) (option_map (λ name. name.now) local.entry)
@@ -162,6 +167,7 @@ where
     ensures bind_fault { result.status ≡ Status.BindFault → Rose (B.bind_faults bind.old) (B.bind_faults bind.new) }
     ensures unserved { result.served ≡ None → IsUnserved result.status }
     ensures served { IfSome result.served (HasServed B.Acceptor.accept_faults B.Acceptor.accepted (service_by service.now)) }
+    ensures answered { IfSome result.served (λ served. AllHaveAnswered B.Acceptor.Link.left B.Acceptor.Link.written B.Clock.moments map.now local.now served.sessions.items) }
     ensures status { IfSome result.served (λ served. result.status ≡ served_status served.faults.items) }
     ensures complete { (Rose (B.bind_faults bind.old) (B.bind_faults bind.new) → ⊥)
         → IfSome result.served (λ served. NoneFailed B.Acceptor.accept_faults served.workers.items)

@@ -1,5 +1,5 @@
 -- What the ends of sessions and the entries of the journal have to do with each other, from what the pass has taken in.
-use Rattle.std.proofs.Common.{◌≡◌, ℕ, zero, suc, ◌==◌, ◌+◌, ◌<◌, ◌≢◌, ◌⊎◌, inl, inr, cond, eq-eqb, ne_eqb, drop, List, [], ◌∷◌, length, sym, refl, ap, ◌∙◌, subst, ⊎_elim, arith, All, get_or}
+use Rattle.std.proofs.Common.{◌≡◌, ℕ, Option, zero, suc, ◌==◌, ◌+◌, ◌<◌, ◌≢◌, ◌⊎◌, inl, inr, cond, eq-eqb, ne_eqb, drop, List, [], ◌∷◌, length, sym, refl, ap, ◌∙◌, subst, ⊎_elim, arith, All, get_or}
 use Rattle.std.proofs.lemmas.List.{append-nil}
 use Rattle.std.proofs.lemmas.List.Elements.{All-cons, All-tail}
 use mathlib.Core.Logic.{dite}
@@ -12,23 +12,35 @@ use Rattle.turn_desk.specs.View.{own_of, kept_by, numbers_in, AgreesWith}
 use Rattle.turn_desk.specs.Closing.{PassValue, Closes}
 use Rattle.turn_desk.specs.declared.view.View.{View}
 use Rattle.turn_desk.specs.declared.view.Kept.{Kept}
+use Rattle.channel_map.specs.declared.edge.Edge.{Edge}
 use Rattle.session.specs.Ended.{EndedSession}
 use Rattle.server.specs.declared.worker.Session.{Session}
 use Rattle.server.specs.Work.{HasPass, IsSessionOf, OthersAreSilent, callers_of, taken_since}
-use Rattle.serve_command.specs.Served.{HasOwnEnd, HasSession, HasToldEntries, IsEndOf}
+use Rattle.serve_command.specs.Served.{AllHaveAnswered, HasAnswered, HasOwnEnd, HasSession, HasToldEntries, IsEndOf}
 
-own_end : (kept : List (Kept Command)) (s : Session EndedSession) → HasPass IsEndOf kept s → HasOwnEnd s
-own_end [] s h = absurd h
-own_end (k ∷ kept) s h = ⊎_elim (λ (one : IsSessionOf IsEndOf s k). one.end.caller_is) (λ (rest : HasPass IsEndOf kept s). own_end kept s rest) h
+module _ {L C : Type 0} (left written : L → Option (List ℕ)) (moments : C → Option (List ℕ)) (channels locals : List Edge) where
+  abbrev IsEnd : EndedSession → ℕ → ℕ → Type 0
+  IsEnd = IsEndOf left written moments channels locals
 
-pub own_ends : (kept : List (Kept Command)) (sessions : List (Session EndedSession)) → All (HasPass IsEndOf kept) sessions → All HasOwnEnd sessions
-own_ends kept sessions h = λ k d lt. own_end kept (get_or sessions k d) (h k d lt)
+  own_end : (kept : List (Kept Command)) (s : Session EndedSession) → HasPass IsEnd kept s → HasOwnEnd s
+  own_end [] s h = absurd h
+  own_end (k ∷ kept) s h = ⊎_elim (λ (one : IsSessionOf IsEnd s k). one.end.caller_is) (λ (rest : HasPass IsEnd kept s). own_end kept s rest) h
 
-told_entries : (history : List (Entry Command)) (kept : List (Kept Command)) (s : Session EndedSession) → All (AgreesWith history) kept → HasPass IsEndOf kept s → HasToldEntries history s
-told_entries history [] s a h = absurd h
-told_entries history (k ∷ kept) s a h = ⊎_elim
-    (λ (one : IsSessionOf IsEndOf s k). one.end.calls_are ∙ (ap length (sym (a 0 k (omega arith)).calls) ∙ ap (λ n. length (entries_by n history)) one.caller))
-    (λ (rest : HasPass IsEndOf kept s). told_entries history kept s (All-tail (AgreesWith history) k kept a) rest) h
+  pub own_ends : (kept : List (Kept Command)) (sessions : List (Session EndedSession)) → All (HasPass IsEnd kept) sessions → All HasOwnEnd sessions
+  own_ends kept sessions h = λ k d lt. own_end kept (get_or sessions k d) (h k d lt)
+
+  answered : (kept : List (Kept Command)) (s : Session EndedSession) → HasPass IsEnd kept s → HasAnswered left written moments channels locals s.caller s.end.end
+  answered [] s h = absurd h
+  answered (k ∷ kept) s h = ⊎_elim (λ (one : IsSessionOf IsEnd s k). one.end.answered) (λ (rest : HasPass IsEnd kept s). answered kept s rest) h
+
+  pub all_answered : (kept : List (Kept Command)) (sessions : List (Session EndedSession)) → All (HasPass IsEnd kept) sessions → AllHaveAnswered left written moments channels locals sessions
+  all_answered kept sessions h = λ k d lt. answered kept (get_or sessions k d) (h k d lt)
+
+  told_entries : (history : List (Entry Command)) (kept : List (Kept Command)) (s : Session EndedSession) → All (AgreesWith history) kept → HasPass IsEnd kept s → HasToldEntries history s
+  told_entries history [] s a h = absurd h
+  told_entries history (k ∷ kept) s a h = ⊎_elim
+      (λ (one : IsSessionOf IsEnd s k). one.end.calls_are ∙ (ap length (sym (a 0 k (omega arith)).calls) ∙ ap (λ n. length (entries_by n history)) one.caller))
+      (λ (rest : HasPass IsEnd kept s). told_entries history kept s (All-tail (AgreesWith history) k kept a) rest) h
 
 -- what a single pass keeps agrees with the journal
 all_agree : (history : List (Entry Command)) (p : PassValue Command) → Closes (p ∷ []) history → All (AgreesWith history) (kept_by p.1)
@@ -38,11 +50,12 @@ all_agree history p closes = subst (All (AgreesWith history)) (append-nil (kept_
 taken_all : (v w : View Command) → v.taken_in ≡ [] → taken_since v w ≡ w.taken_in
 taken_all v w none = ap (λ (l : List (Kept Command)). drop (length l) w.taken_in) none
 
-pub all_told : (v : View Command) (p : PassValue Command) (history : List (Entry Command)) (sessions : List (Session EndedSession)) → v.taken_in ≡ [] → Closes (p ∷ []) history
-    → All (HasPass IsEndOf (taken_since v p.1)) sessions → All (HasToldEntries history) sessions
-all_told v p history sessions none closes h = λ k d lt. told_entries history p.1.taken_in (get_or sessions k d)
-    (All-tail (AgreesWith history) (own_of p.1) p.1.taken_in (all_agree history p closes))
-    (subst (λ kept. HasPass IsEndOf kept (get_or sessions k d)) (taken_all v p.1 none) (h k d lt))
+module _ {L C : Type 0} (left written : L → Option (List ℕ)) (moments : C → Option (List ℕ)) (channels locals : List Edge) where
+  pub all_told : (v : View Command) (p : PassValue Command) (history : List (Entry Command)) (sessions : List (Session EndedSession)) → v.taken_in ≡ [] → Closes (p ∷ []) history
+      → All (HasPass (IsEndOf left written moments channels locals) (taken_since v p.1)) sessions → All (HasToldEntries history) sessions
+  all_told v p history sessions none closes h = λ k d lt. told_entries left written moments channels locals history p.1.taken_in (get_or sessions k d)
+      (All-tail (AgreesWith history) (own_of p.1) p.1.taken_in (all_agree history p closes))
+      (subst (λ kept. HasPass (IsEndOf left written moments channels locals) kept (get_or sessions k d)) (taken_all v p.1 none) (h k d lt))
 
 -- an entry is found under its caller
 own_is_found : (n : ℕ) (history : List (Entry Command)) → entries_by n history ≡ [] → (k : ℕ) (d : Entry Command) → k < length history → (get_or history k d).caller ≢ n

@@ -1,22 +1,49 @@
 -- What serving connections over one desk leaves: the ends of sessions, the entries of their callers, and the faults of workers.
-use Rattle.std.specs.Prelude.{◌≡◌, ℕ, ◌-◌, ◌^◌, ◌<◌, List, length, All, slice_index_or, ⊤}
+use Rattle.std.specs.Prelude.{◌≡◌, ℕ, ◌-◌, ◌^◌, ◌<◌, List, length, All, Option, slice_index_or, ⊤}
 use Rattle.std.specs.List.{sum_by}
 use Rattle.port_io.specs.Faults.{Rose}
+use Rattle.port_io.specs.declared.session_end.SessionEnd.{SessionEnd}
+use Rattle.channel_map.specs.declared.edge.Edge.{Edge}
 use Rattle.one_history.specs.declared.entry.Entry.{Entry}
 use Rattle.one_history.specs.History.{entries_by}
 use Rattle.askrene_command.specs.declared.command.Command.{Command}
 use Rattle.turn_desk.specs.Numbers.{IsAmong}
+use Rattle.session.specs.Answers.{Answers}
+use Rattle.session.specs.Caller.{one_of_many}
 use Rattle.session.specs.Ended.{EndedSession}
+use Rattle.session.specs.Session.{IsToldSession}
 use Rattle.server.specs.declared.worker.Session.{Session}
 use Rattle.server.specs.declared.worker.Worker.{Worker}
 use Rattle.server.specs.declared.worker.WorkFault.{WorkFault}
 use Rattle.server.specs.declared.worker.WorkFault.TheVariants.{Accept, NoMemory}
 use Rattle.server.specs.Work.{callers_of}
 
--- the end is one of this caller, which has committed so many entries
-pub record IsEndOf (ended : EndedSession) (caller calls : ℕ) : Type 0 where
-  pub caller_is : ended.caller ≡ caller
-  pub calls_are : ended.calls ≡ calls
+module _ {L C : Type 0} (left written : L → Option (List ℕ)) (moments : C → Option (List ℕ)) (channels locals : List Edge) where
+  -- a connection and a clock before a session of the caller and after it, with routes over these channels
+  pub record HasAnswered (caller : ℕ) (end : SessionEnd) : Type 0 where
+    pub link : L
+    pub link_after : L
+    pub clock : C
+    pub clock_after : C
+    pub seen : List (Entry Command)
+    pub seen_after : List (Entry Command)
+    pub session : IsToldSession (Answers channels locals) (one_of_many caller) end (record {
+      input = left link;
+      rest = left link_after;
+      output = written link;
+      written = written link_after;
+      before = record { log = seen; clock = moments clock };
+      after = record { log = seen_after; clock = moments clock_after };
+    })
+
+  abbrev pub AllHaveAnswered : List (Session EndedSession) → Type 0
+  AllHaveAnswered = All (λ s. HasAnswered s.caller s.end.end)
+
+  -- the end is one of a session of this caller, which has committed so many entries
+  pub record IsEndOf (ended : EndedSession) (caller calls : ℕ) : Type 0 where
+    pub caller_is : ended.caller ≡ caller
+    pub calls_are : ended.calls ≡ calls
+    pub answered : HasAnswered caller ended.end
 
 -- the end of a session is one of its caller
 abbrev pub HasOwnEnd : Session EndedSession → Type 0

@@ -23,7 +23,7 @@ pub struct LineServer<'a, G, S> {
 impl<'a, L: Link, C: Clock, G: Gate, S: Solve> Serve<State, L, C> for LineServer<'a, G, S> {
     type End = Ended;
 
-    ghost relates = { IsEndOf };
+    ghost relates = { λ server. IsEndOf L.left L.written C.moments server.map.now server.local.now };
 
     fn serve<R: Threads + Wait + Sync>(
         &self,

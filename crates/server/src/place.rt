@@ -46,13 +46,13 @@ where
     A::Link: Drop,
     requires desk { place.old.pass.0 ≡ desk.now }
     requires counter { place.old.drawer.0 ≡ counter.now }
-    requires going { Going V.relates connections place.old.sessions.items place.old.drawer.1 place.old.pass.1 }
+    requires going { Going (V.relates server.now) connections place.old.sessions.items place.old.drawer.1 place.old.pass.1 }
     requires running { place.old.stop ≡ None }
     ensures desk { place.new.pass.0 ≡ place.old.pass.0 }
     ensures counter { place.new.drawer.0 ≡ place.old.drawer.0 }
-    ensures going { result ≡ true → Going V.relates connections place.new.sessions.items place.new.drawer.1 place.new.pass.1 }
+    ensures going { result ≡ true → Going (V.relates server.now) connections place.new.sessions.items place.new.drawer.1 place.new.pass.1 }
     ensures running { result ≡ true → place.new.stop ≡ None }
-    ensures ended { result ≡ false → Ended V.relates connections place.new.sessions.items place.new.drawer.1 place.new.pass.1 place.new.stop }
+    ensures ended { result ≡ false → Ended (V.relates server.now) connections place.new.sessions.items place.new.drawer.1 place.new.pass.1 place.new.stop }
     ensures never_falls { A.accept_faults place.old.worker.acceptor ≤ A.accept_faults place.new.worker.acceptor }
     ensures cause { place.new.stop ≡ Some Accept → Rose (A.accept_faults place.old.worker.acceptor) (A.accept_faults place.new.worker.acceptor) }
     ensures accepted { (start : ℕ) → AcceptedFrom start (length place.old.sessions.items) (A.accepted place.old.worker.acceptor) → AcceptedFrom start (length place.new.sessions.items) (A.accepted place.new.worker.acceptor) }
@@ -110,8 +110,8 @@ pub fn run_worker<
 )
 where
     A::Link: Drop,
-    requires { MayRun V.relates connections desk.now counter.now place.old }
-    ensures { Ran V.relates A.accept_faults A.accepted connections place.old place.new }
+    requires { MayRun (V.relates server.now) connections desk.now counter.now place.old }
+    ensures { Ran (V.relates server.now) A.accept_faults A.accepted connections place.old place.new }
 {
     for _ in rt.forever() {
         if !serve_one(rt, alloc, desk, counter, server, connections, place) {

@@ -16,8 +16,8 @@ pub trait Serve<O: Object, L: Link, C: Clock> {
     /// How the serving of a connection ended.
     type End: Send + Drop;
 
-    /// Whether an end is one of this caller that has made so many calls.
-    ghost relates: { Self.End → ℕ → ℕ → Type 0 };
+    /// Whether an end, answered by this server, is one of this caller that has made so many calls.
+    ghost relates: { Self → Self.End → ℕ → ℕ → Type 0 };
 
     /// Serves a connection on a pass of this desk, and returns how it ended. Nothing is made from the pass, and it takes nothing
     /// in.
@@ -38,5 +38,5 @@ pub trait Serve<O: Object, L: Link, C: Clock> {
         ensures number { pass.new.1.number ≡ pass.old.1.number }
         ensures made_from { pass.new.1.made_from ≡ pass.old.1.made_from }
         ensures taken_in { pass.new.1.taken_in ≡ pass.old.1.taken_in }
-        ensures end { relates result pass.old.1.number (calls_gained pass.old.1 pass.new.1) };
+        ensures end { relates self.now result pass.old.1.number (calls_gained pass.old.1 pass.new.1) };
 }

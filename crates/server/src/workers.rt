@@ -43,9 +43,9 @@ where
     A::Link: Send + Drop,
     O::Command: Send,
     O::Reply: Send,
-    requires { All (MayRun V.relates connections desk.now counter.now) places.old }
+    requires { All (MayRun (V.relates server.now) connections desk.now counter.now) places.old }
     ensures len { length places.new ≡ length places.old }
-    ensures each { (i : ℕ) (d : _) → i < length places.old → Ran V.relates A.accept_faults A.accepted connections (slice_index_or places.old i d) (slice_index_or places.new i d) }
+    ensures each { (i : ℕ) (d : _) → i < length places.old → Ran (V.relates server.now) A.accept_faults A.accepted connections (slice_index_or places.old i d) (slice_index_or places.new i d) }
 {
     let threads = places.len();
     if threads > 0 {
@@ -54,8 +54,8 @@ where
             places,
             threads,
             &|_: usize, place: &mut Place<O, A, C, V::End>|
-                requires { MayRun V.relates connections desk.now counter.now place.now }
-                ensures { Ran V.relates A.accept_faults A.accepted connections place.entry.now place.exit.now }
+                requires { MayRun (V.relates server.now) connections desk.now counter.now place.now }
+                ensures { Ran (V.relates server.now) A.accept_faults A.accepted connections place.entry.now place.exit.now }
             { run_worker(rt, alloc, desk, counter, server, connections, place) },
         );
     }
@@ -81,9 +81,9 @@ where
     A::Link: Send + Drop,
     O::Command: Send,
     O::Reply: Send,
-    requires { All (MayRun V.relates connections desk.now counter.now) places.old.items }
+    requires { All (MayRun (V.relates server.now) connections desk.now counter.now) places.old.items }
     ensures len { length places.new.items ≡ length places.old.items }
-    ensures each { (i : ℕ) (d : _) → i < length places.old.items → Ran V.relates A.accept_faults A.accepted connections (slice_index_or places.old.items i d) (slice_index_or places.new.items i d) }
+    ensures each { (i : ℕ) (d : _) → i < length places.old.items → Ran (V.relates server.now) A.accept_faults A.accepted connections (slice_index_or places.old.items i d) (slice_index_or places.new.items i d) }
 {
     run_places(
         rt,
@@ -121,7 +121,7 @@ where
     requires counter { all.drawer.0 ≡ counter.now }
     requires on_desk { All (λ p. p.pass.0 ≡ desk.now) places.items }
     requires on_counter { All (λ p. p.drawer.0 ≡ counter.now) places.items }
-    requires ready { All (MayRun V.relates connections desk.now counter.now) places.items }
+    requires ready { All (MayRun (V.relates server.now) connections desk.now counter.now) places.items }
     requires parts { all.drawer.1.parts ≡ 1 }
     requires numbers { all.drawer.1.numbers ≡ [] }
     requires splits { all.drawer.1.splits + length places.items ≡ WORKERS_MAX }
@@ -132,7 +132,7 @@ where
     requires sessions_room { connections ≤ vec_capacity all.sessions }
     requires faults_room { length places.items ≤ vec_capacity all.faults }
     ensures desk { result.pass.0 ≡ all.pass.0 }
-    ensures works { (workers : _) (v : _) → IsPreparedFrom workers v all.pass.1 places.items → Works V.relates A.accept_faults A.accepted connections workers v (record { pass = result.pass.1; workers = result.workers.items; sessions = result.sessions.items; faults = result.faults.items }) }
+    ensures works { (workers : _) (v : _) → IsPreparedFrom workers v all.pass.1 places.items → Works (V.relates server.now) A.accept_faults A.accepted connections workers v (record { pass = result.pass.1; workers = result.workers.items; sessions = result.sessions.items; faults = result.faults.items }) }
 {
     run_all(rt, alloc, desk, counter, server, connections, &mut places);
     gather(desk, counter, connections, places, &mut all);
@@ -220,7 +220,7 @@ where
     ensures ascending { IfOk result (λ w. IsStrictlyIncreasing (session_numbers w.sessions.items)) }
     ensures numbers { IfOk result (λ w. All (λ s. s.number < connections) w.sessions.items) }
     ensures callers { IfOk result (λ w. AreDistinct (callers_of w.sessions.items)) }
-    ensures ends { IfOk result (λ w. All (HasPass V.relates (taken_since pass.1 w.pass.1)) w.sessions.items) }
+    ensures ends { IfOk result (λ w. All (HasPass (V.relates server.now) (taken_since pass.1 w.pass.1)) w.sessions.items) }
     ensures silent { IfOk result (λ w. OthersAreSilent w.sessions.items (taken_since pass.1 w.pass.1)) }
     ensures missing { IfOk result (λ w. length w.faults.items < length workers.items → connections ≤ length w.sessions.items + length w.faults.items) }
     ensures fault_order { IfOk result (λ w. IsStrictlyIncreasing (fault_workers w.faults.items)) }

@@ -23,3 +23,6 @@ returns-in-Ok-serve_all-clause-served c d =
       accept_cause = e.accept_cause;
       accept_sum = e.accept_sum;
     })
+
+pub returns-in-Ok-serve_all-clause-answered : goal.returns-in-Ok-serve_all-clause-answered
+returns-in-Ok-serve_all-clause-answered c d = rw d.end_of.ensures d.in-Ok-serve_all.ensures.answered

@@ -12,7 +12,7 @@ returns-in_default-prepare-clause-unworked_silent g c = let p = c.prepare.ensure
 pub finish-requires-clause-ready : goal.finish-requires-clause-ready
 finish-requires-clause-ready g c κs within =
     let p = c.prepare.ensures in
-    may_run g.V.Serve.relates g.A.Acceptor.accept_faults g.A.Acceptor.accepted c.args.connections _ _ _ p.on_desk p.on_counter
+    may_run (g.V.Serve.relates c.args.server.now) g.A.Acceptor.accept_faults g.A.Acceptor.accepted c.args.connections _ _ _ p.on_desk p.on_counter
     (subst (λ n. All (λ p. IsReady n p.sessions.items p.drawer.1 p.pass.1 p.stop) c.prepare.new.places.items) (ap (λ o. o.1.connections) c.in-Ok-open.ensures ∙ c.from.ensures) p.ready)
 
 pub returns-clause-follows : goal.returns-clause-follows
