@@ -79,3 +79,11 @@ module _ (old edges : List Edge) (nodes : List (List ℕ)) (moved : IsPermutatio
       let n : MAP_NODES_MAX < length (nodes_of old) = omega (arith, as_many, many) in
       let large : is_large_map old ≡ true = grind (arith, nat_tests) in
       ap (λ b. if b then too_many (length old) (length (nodes_of old)) else accepted old) large ∙ ap (too_many (length old)) as_many
+
+pub too_many_directions : (old edges : List Edge) → IsPermutation old edges → MAP_DIRECTIONS_MAX < length edges → reading_of_distinct is_large_map old None ≡ too_many (length edges) (length (nodes_of edges))
+too_many_directions old edges moved many =
+    let long : length old ≡ length edges = sym (length_permutation old edges moved) in
+    let n : MAP_DIRECTIONS_MAX < length old = omega (arith, long, many) in
+    let large : is_large_map old ≡ true = grind (arith, nat_tests) in
+    ap (λ b. if b then too_many (length old) (length (nodes_of old)) else accepted old) large
+    ∙ ap (λ count. too_many count (length (nodes_of old))) long ∙ ap (too_many (length edges)) (as_many_nodes old edges moved)

@@ -1,5 +1,5 @@
 -- What the text of a map, or of a local file, is read as.
-use Rattle.std.specs.Prelude.{◌≡◌, ℕ, nat_lt, ◌||◌, Bool, List, [], ◌∷◌, ◌++◌, length, fold, bytes_eq, Option, Some, None, if◌then◌else◌}
+use Rattle.std.specs.Prelude.{◌≡◌, ℕ, nat_lt, ◌||◌, Bool, All, List, [], ◌∷◌, ◌++◌, length, fold, bytes_eq, Option, Some, None, if◌then◌else◌}
 use Rattle.std.specs.List.{list_any}
 use Rattle.std.specs.List.Sorted.{IsPermutation}
 use Rattle.std.specs.Str.{is_utf8}
@@ -11,7 +11,7 @@ use Rattle.channel_map.specs.declared.edge.Edge.{Edge}
 use Rattle.channel_map.specs.declared.fault.Field.{Field}
 use Rattle.channel_map.specs.declared.fault.MapFault.{MapFault}
 use Rattle.channel_map.specs.declared.fault.MapFault.TheVariants.{NotJson, NoChannels, Entry, Twice, TooMany, Long, NoMemory}
-use Rattle.channel_map.specs.Edge.{IsAscending}
+use Rattle.channel_map.specs.Edge.{IsAscending, IsGoodEdge}
 use Rattle.channel_map.specs.Channels.{Gathered, listed_entries}
 
 -- The JSON value of a text, if it has one; the JSON crate defines it. Of repeated keys the last value counts, at most 127
@@ -106,5 +106,14 @@ IsMapFault NoMemory reading = Unit {0}
 pub record IsReadAs (reading : Reading) (edges : List Edge) : Type 0 where
   pub entries : List Edge
   pub read_as : reading ≡ accepted entries
+  pub same : IsPermutation entries edges
+  pub ascending : IsAscending edges
+
+-- the value lists entries that are all good and of which no two have the same direction, and these are their directions, in
+-- ascending order
+pub record IsReadInOrder (value : Option Data) (edges : List Edge) : Type 0 where
+  pub entries : List Edge
+  pub read_as : (is_large : SizeTest) → reading_of is_large value ≡ reading_of_distinct is_large entries None
+  pub good : All IsGoodEdge entries
   pub same : IsPermutation entries edges
   pub ascending : IsAscending edges

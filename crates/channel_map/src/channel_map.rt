@@ -1,17 +1,17 @@
-ghost use Rattle.std.specs.Prelude.{◌≡◌, [], None, Some, All, IfOk, IfErr, IsErrOf, option_map, option_copied};
+ghost use Rattle.std.specs.Prelude.{◌≡◌, [], None, Some, All, IfSome, IfOk, IfErr, IsErrOf, option_map, option_copied};
 ghost use Rattle.channel_map.specs.Edge.{IsGoodEdge, IsGoodMap, IsAscending};
 ghost use Rattle.channel_map.specs.Channels.{listed_entries};
 ghost use Rattle.channel_map.specs.Found.{gathered_in};
 ghost use Rattle.channel_map.specs.Listed.{edge_for};
 ghost use Rattle.channel_map.specs.Nodes.{AreNodesOf};
-ghost use Rattle.channel_map.specs.Reading.{IsMapFault, IsReadAs, SizeTest, json_value, reading_of, reading_of_distinct, first_repeated, map_reading, local_reading};
+ghost use Rattle.channel_map.specs.Reading.{IsMapFault, IsReadAs, IsReadInOrder, SizeTest, json_value, reading_of, reading_of_distinct, first_repeated, map_reading, local_reading};
 
 use crate::channels::read_listed;
 use crate::edge::Edge;
 use crate::entries::{Entries, Unread};
 use crate::fault::MapFault;
 use crate::nodes::{MapNodes, find_nodes, number_nodes};
-use crate::order::{count_nodes, first_repeated, sort};
+use crate::order::{arrange, ascend, count_nodes, first_repeated, sort};
 use plan_base::Dir;
 use std::alloc::Global;
 use std::marker::Model;
@@ -81,12 +81,11 @@ fn read_entries(alloc: Global, text: &[u8]) -> Result<Entries, MapFault>
     }
 }
 
-// The directions of the entries, in their order, if all are good and none occurs twice.
+// The directions of the entries, in their order, if all are good.
 #[tactic(auto, using(crate::proofs::Readings::reading_of_found))]
-fn read_edges(alloc: Global, text: &[u8]) -> Result<Vec<Edge>, MapFault>
-    ensures ok { IfOk result (λ edges. (is_large : SizeTest)
-        → reading_of is_large (json_value text.now) ≡ reading_of_distinct is_large edges.items None) }
-    ensures distinct { IfOk result (λ edges. first_repeated edges.items ≡ None) }
+fn read_good(alloc: Global, text: &[u8]) -> Result<Vec<Edge>, MapFault>
+    ensures ok { IfOk result (λ edges. (is_large : SizeTest) → reading_of is_large (json_value text.now)
+        ≡ reading_of_distinct is_large edges.items (first_repeated edges.items)) }
     ensures good { IfOk result (λ edges. All IsGoodEdge edges.items) }
     ensures err { IfErr result (λ fault. (is_large : SizeTest)
         → IsMapFault fault (reading_of is_large (json_value text.now))) }
@@ -99,9 +98,55 @@ fn read_edges(alloc: Global, text: &[u8]) -> Result<Vec<Edge>, MapFault>
             field,
         });
     }
+    Ok(edges)
+}
+
+// The directions of the entries, in their order, if all are good and none occurs twice.
+fn read_edges(alloc: Global, text: &[u8]) -> Result<Vec<Edge>, MapFault>
+    ensures ok { IfOk result (λ edges. (is_large : SizeTest)
+        → reading_of is_large (json_value text.now) ≡ reading_of_distinct is_large edges.items None) }
+    ensures distinct { IfOk result (λ edges. first_repeated edges.items ≡ None) }
+    ensures good { IfOk result (λ edges. All IsGoodEdge edges.items) }
+    ensures err { IfErr result (λ fault. (is_large : SizeTest)
+        → IsMapFault fault (reading_of is_large (json_value text.now))) }
+    ensures never_long { ¬ (IsErrOf result MapFault.Long) }
+{
+    let edges = read_good(alloc, text)?;
     if let Some(dir) = first_repeated(alloc, &edges)? {
         return Err(MapFault::Twice { dir });
     }
+    Ok(edges)
+}
+
+// The directions of the entries in ascending order, if all are good. None if one of them occurs twice.
+fn read_distinct(alloc: Global, text: &[u8]) -> Result<Option<Vec<Edge>>, MapFault>
+    ensures ok { IfOk result (λ found. IfSome found (λ edges. IsReadInOrder (json_value text.now) edges.items)) }
+    ensures err { IfErr result (λ fault. (is_large : SizeTest)
+        → IsMapFault fault (reading_of is_large (json_value text.now))) }
+    ensures never_long { ¬ (IsErrOf result MapFault.Long) }
+{
+    let mut edges = read_good(alloc, text)?;
+    arrange(&mut edges);
+    if ascend(&edges) {
+        Ok(Some(edges))
+    } else {
+        Ok(None)
+    }
+}
+
+// The directions of the entries in ascending order, if all are good and none occurs twice. Only if one does, the text is
+// read once more, to find the first.
+fn read_in_order(alloc: Global, text: &[u8]) -> Result<Vec<Edge>, MapFault>
+    ensures ok { IfOk result (λ edges. IsReadInOrder (json_value text.now) edges.items) }
+    ensures err { IfErr result (λ fault. (is_large : SizeTest)
+        → IsMapFault fault (reading_of is_large (json_value text.now))) }
+    ensures never_long { ¬ (IsErrOf result MapFault.Long) }
+{
+    if let Some(distinct) = read_distinct(alloc, text)? {
+        return Ok(distinct);
+    }
+    let mut edges = read_edges(alloc, text)?;
+    sort(&mut edges);
     Ok(edges)
 }
 
@@ -194,13 +239,12 @@ pub fn read_map(alloc: Global, text: &[u8]) -> Result<ChannelMap, MapFault>
     ensures err { IfErr result (λ fault. IsMapFault fault (map_reading text.now)) }
     ensures never_long { ¬ (IsErrOf result MapFault.Long) }
 {
-    let mut edges = read_edges(alloc, text)?;
+    let edges = read_in_order(alloc, text)?;
     let directions = edges.len();
     if directions > MAP_DIRECTIONS_MAX {
         let nodes = count_nodes(alloc, &edges)?;
         return Err(MapFault::TooMany { directions, nodes });
     }
-    sort(&mut edges);
     let found = find_nodes(alloc, &edges)?;
     let nodes = found.nodes.len();
     if nodes > MAP_NODES_MAX {

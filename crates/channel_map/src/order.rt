@@ -1,5 +1,6 @@
-ghost use Rattle.std.specs.Prelude.{◌≡◌, None, length, IfOk};
-ghost use Rattle.std.specs.List.Sorted.{IsPermutation};
+ghost use Rattle.std.specs.Prelude.{◌≡◌, None, length, IfOk, IsTrue};
+ghost use Rattle.std.specs.List.Sorted.{IsPermutation, IsSortedByKey};
+ghost use Rattle.plan_base.specs.Dir.{dir_order};
 ghost use Rattle.channel_map.specs.Edge.{IsAscending};
 ghost use Rattle.channel_map.specs.Reading.{first_repeated, nodes_of};
 
@@ -39,11 +40,31 @@ fn gather_nodes(alloc: Global, edges: &[Edge]) -> Result<IndexSet<NodeId>, NoMem
     Ok(nodes)
 }
 
+/// Puts directions into an order in which none is below an earlier one.
+pub(crate) fn arrange(edges: &mut Vec<Edge>)
+    ensures same { IsPermutation edges.old.items edges.new.items }
+    ensures sorted { IsSortedByKey (λ edge. edge.dir) dir_order edges.new.items }
+{
+    edges.sort_unstable_by_key(|edge| edge.dir);
+}
+
+/// Whether each direction is above the one before it, so that none occurs twice.
+pub(crate) fn ascend(edges: &[Edge]) -> bool
+    ensures { IsTrue result → IsAscending edges.now }
+{
+    for place in 1..edges.len() {
+        if !edges[place - 1].dir.cmp(&edges[place].dir).is_lt() {
+            return false;
+        }
+    }
+    true
+}
+
 /// Puts directions, none of which occurs twice, into ascending order.
 pub(crate) fn sort(edges: &mut Vec<Edge>)
     requires { first_repeated edges.old.items ≡ None }
     ensures same { IsPermutation edges.old.items edges.new.items }
     ensures ascending { IsAscending edges.new.items }
 {
-    edges.sort_unstable_by_key(|edge| edge.dir);
+    arrange(edges);
 }
