@@ -1,11 +1,13 @@
 -- The places of nodes: among the nodes found, with one more of them, and among the nodes in order.
-use Rattle.std.proofs.Common.{◌≡◌, ℕ, suc, ◌+◌, ◌<◌, ◌≤◌, List, [], ◌∷◌, ◌++◌, length, map, take, get_or, Bool, true, false, All, if◌then◌else◌, refl, sym, ap, ◌∙◌, arith}
+use Rattle.std.proofs.Common.{◌≡◌, ℕ, suc, ◌+◌, ◌<◌, ◌≤◌, List, [], ◌∷◌, ◌++◌, length, map, take, get_or, Bool, true, false, All, if◌then◌else◌, refl, sym, ap, subst, ◌∙◌, arith}
 use Rattle.std.specs.Prelude.{bytes_eq}
 use Rattle.std.specs.List.{Contains, list_any}
 use Rattle.std.specs.List.Sorted.{IsPermutation}
 use Rattle.std.proofs.lemmas.List.{get_or-map, get_or_append_left, length-append, length-map, map-append, take_more}
+use Rattle.std.proofs.lemmas.Cmp.{nat_list_eq_equiv}
 use Rattle.std.proofs.lemmas.List.Elements.{All-map, Contains-get_or}
 use Rattle.std.proofs.lemmas.List.Sorted.{Contains-permutation}
+use Rattle.std.proofs.lemmas.Map.Views.{list_any-from_Contains}
 use Rattle.channel_map.specs.declared.edge.Edge.{Edge}
 use Rattle.channel_map.specs.declared.nodes.Ends.{Ends}
 use Rattle.channel_map.specs.Nodes.{ArePlaces, ends_at, id_at, named_ends}
@@ -100,3 +102,8 @@ module _ (sorted before : List (List ℕ)) (places : List ℕ) (is : map (id_at 
 
 pub moved_more : (places : List ℕ) (list : List Ends) (i : ℕ) (d : Ends) → i < length list → map (ends_at places) (take (i + 1) list) ≡ map (ends_at places) (take i list) ++ ends_at places (get_or list i d) ∷ []
 moved_more places list i d within = ap (map (ends_at places)) (take_more list i d within) ∙ map-append (ends_at places) (take i list) (get_or list i d ∷ [])
+
+-- a node that stands at a place is not added
+pub there : (nodes : List (List ℕ)) (node : List ℕ) (place : ℕ) → place < length nodes → get_or nodes place [] ≡ node → with_node nodes node ≡ nodes
+there nodes node place within is =
+    ap (λ b. if b then nodes else nodes ++ node ∷ []) (list_any-from_Contains nat_list_eq_equiv node nodes (subst (Contains nodes) is (Contains-get_or nodes place [] within)))

@@ -1,4 +1,4 @@
-ghost use Rattle.std.specs.Prelude.{◌≡◌, ◌+◌, ◌*◌, ◌<◌, ◌≤◌, length, map, slice_index_or, [], All, IfOk, OnOk};
+ghost use Rattle.std.specs.Prelude.{◌≡◌, ◌+◌, ◌*◌, ◌<◌, ◌≤◌, length, map, slice_index_or, [], All, IsTrue, IfOk, OnOk};
 ghost use Rattle.std.specs.List.{Contains};
 ghost use Rattle.channel_map.specs.Nodes.{ArePlaces, IsNumbered, ends_at, ends_of, id_at, named_ends};
 ghost use Rattle.channel_map.specs.Reading.{nodes_of, with_ends, with_node};
@@ -43,32 +43,49 @@ pub(crate) fn find_nodes(alloc: Global, edges: &[Edge]) -> Result<FoundNodes, No
 {
     let mut nodes: IndexSet<NodeId> = IndexSet::new(alloc);
     let mut ends = Vec::with_capacity(alloc, edges.len())?;
+    let mut last = Ends { from: 0, to: 0 };
     for edge in edges {
-        let places = add_ends(&mut nodes, edge)?;
+        let places = add_ends(&mut nodes, edge, last)?;
         ends.push(places)?;
+        last = places;
     }
     Ok(FoundNodes { nodes, ends })
 }
 
-fn add_ends(nodes: &mut IndexSet<NodeId>, edge: &Edge) -> Result<Ends, NoMemory>
+// Where the direction before was the other one of its channel, `last` has the places of its ends.
+fn add_ends(nodes: &mut IndexSet<NodeId>, edge: &Edge, last: Ends) -> Result<Ends, NoMemory>
     requires few { length nodes.old.keys + 1 < 2 * MAP_DIRECTIONS_MAX }
     ensures keys { OnOk result (nodes.new.keys ≡ with_ends nodes.old.keys edge.now) }
     ensures named { IfOk result (λ ends. named_ends nodes.new.keys ends ≡ ends_of edge.now) }
     ensures within { IfOk result (ArePlaces (length nodes.new.keys)) }
 {
-    let from = add_node(nodes, edge.source)?;
-    let to = add_node(nodes, edge.destination)?;
+    let from = add_node(nodes, edge.source, last.to)?;
+    let to = add_node(nodes, edge.destination, last.from)?;
     Ok(Ends { from, to })
 }
 
-fn add_node(nodes: &mut IndexSet<NodeId>, node: NodeId) -> Result<u32, NoMemory>
+// `likely` is tried first.
+fn add_node(nodes: &mut IndexSet<NodeId>, node: NodeId, likely: u32) -> Result<u32, NoMemory>
     requires few { length nodes.old.keys < 2 * MAP_DIRECTIONS_MAX }
     ensures keys { OnOk result (nodes.new.keys ≡ with_node nodes.old.keys node) }
     ensures is { IfOk result (λ place. slice_index_or nodes.new.keys place [] ≡ node) }
     ensures within { IfOk result (λ place. place < length nodes.new.keys) }
 {
+    if is_at(nodes.as_slice(), likely, &node) {
+        return Ok(likely);
+    }
     let added = nodes.insert_full(node)?;
     Ok(added.0 as u32)
+}
+
+fn is_at(ids: &[NodeId], place: u32, node: &NodeId) -> bool
+    ensures within { IsTrue result → place < length ids.now }
+    ensures is { IsTrue result → slice_index_or ids.now place [] ≡ node.now }
+{
+    match ids.get(place as usize) {
+        Some(id) => id == node,
+        None => false,
+    }
 }
 
 /// Numbers the nodes in ascending order.
