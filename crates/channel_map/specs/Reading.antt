@@ -109,8 +109,8 @@ pub record IsReadAs (reading : Reading) (edges : List Edge) : Type 0 where
   pub same : IsPermutation entries edges
   pub ascending : IsAscending edges
 
--- the value lists entries that are all good and of which no two have the same direction, and these are their directions, in
--- ascending order
+-- serves private clauses only: the value lists entries that are all good and of which no two have the same direction, and
+-- these are their directions, in ascending order
 pub record IsReadInOrder (value : Option Data) (edges : List Edge) : Type 0 where
   pub entries : List Edge
   pub read_as : (is_large : SizeTest) → reading_of is_large value ≡ reading_of_distinct is_large entries None
