@@ -4,6 +4,7 @@ ghost use Rattle.one_history.specs.History.{entry_of, fold};
 ghost use Rattle.turn_desk.specs.Calls.{Commits, Continues, DrawsTurn, IsRefused, Makes, RefusesEvent, RefusesPass, TakesIn};
 ghost use Rattle.turn_desk.specs.View.{new_view};
 
+use crate::bells::Bells;
 use crate::limits::{PASSES_MAX, TURNS_MAX};
 use crate::steps::{ByTurns, LENGTH, Learn, MakePass, Slot, TakeIn};
 use crate::view::View;
@@ -18,11 +19,12 @@ use std::sync::Wait;
 /// One history to which many passes commit, each in its turn. Threads share the desk by reference.
 ///
 /// Contracts see which desk it is: a pass `p` was made by the desk `d` if `p.0 ≡ d`. A call of `event`, `pass`,
-/// `note` or `close` may wait for other passes; a waiting thread looks for its turn, lets other threads run, and
-/// looks again. No code but the object's step runs in a turn.
+/// `note` or `close` may wait for other passes; a waiting thread looks for its turn some times, and then sleeps until
+/// the pass whose turn comes before it wakes it. No code but the object's step runs in a turn.
 #[derive(Drop)]
 pub struct Desk<O: Object> {
     pub(crate) table: Table<Slot<O>, View<O::Command>, (), ByTurns, Global>,
+    pub(crate) bells: Bells,
 }
 
 impl<O: Object> Model for Desk<O> {
@@ -49,7 +51,10 @@ impl<O: Object> Desk<O> {
         slots.push_reserved(Some((journal, 1)));
         match Table::new(alloc, &[0, 0, 0], slots, &()) {
             Ok((table, seat)) => Ok((
-                Desk { table },
+                Desk {
+                    table,
+                    bells: Bells::new(),
+                },
                 Pass {
                     seat,
                     number: 0,

@@ -2,6 +2,7 @@
 //! asked for their turns.
 #![tactic(auto)]
 
+mod bells;
 mod closing;
 mod desk;
 mod limits;

@@ -12,7 +12,6 @@ use crate::view::View;
 use atomic_table::Seat;
 use one_history::{Journal, Object};
 use std::sync::Wait;
-use std::thread;
 
 impl<O: Object> Desk<O> {
     /// Draws a ticket, waits until it is served, and takes the content out of the slot.
@@ -38,7 +37,6 @@ impl<O: Object> Desk<O> {
         content
     }
 
-    // The waiting thread looks, lets other threads run, and looks again; it does not sleep.
     fn wait_until_served<R: Wait>(
         &self,
         rt: &R,
@@ -51,11 +49,15 @@ impl<O: Object> Desk<O> {
         ensures desk { seat.new.table_id ≡ seat.old.table_id }
         ensures handed { IsHanded seat.old.me seat.new.me }
     {
+        let mut looks = 0u32;
         for _ in rt.forever() {
+            let heard = self.bells.listen(ticket, looks);
             if self.table.shared.load::<Look>(seat, SERVING) == ticket {
+                self.bells.stop_listening(ticket, heard);
                 return;
             }
-            thread::yield_now();
+            self.bells.rest(rt, ticket, heard);
+            looks = looks.saturating_add(1);
         }
         unreachable!()
     }
@@ -79,7 +81,8 @@ impl<O: Object> Desk<O> {
             .shared
             .exchange(seat, JOURNAL, Some((journal, made)));
         let None = empty else { unreachable!() };
-        self.table.shared.fetch_add::<Leave>(seat, SERVING, 1);
+        let served = self.table.shared.fetch_add::<Leave>(seat, SERVING, 1);
+        self.bells.ring(served.wrapping_add(1));
     }
 
     /// Puts the content back, with one entry more in the journal, commits that entry, and leaves the turn.
@@ -104,6 +107,7 @@ impl<O: Object> Desk<O> {
             .exchange(seat, JOURNAL, Some((journal, made)));
         let None = empty else { unreachable!() };
         self.table.shared.fetch_add::<Commit>(seat, LENGTH, 1);
-        self.table.shared.fetch_add::<Leave>(seat, SERVING, 1);
+        let served = self.table.shared.fetch_add::<Leave>(seat, SERVING, 1);
+        self.bells.ring(served.wrapping_add(1));
     }
 }
