@@ -11,6 +11,7 @@ pub mod Lifted
 pub mod Advances
 pub mod Outgoing
 pub mod Firsts
+pub mod Fitting
 pub mod Turned
 pub mod Queues
 pub mod Seen

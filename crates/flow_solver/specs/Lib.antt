@@ -5,3 +5,4 @@ pub mod Meeting
 pub mod TwoSided
 pub mod Augmented
 pub mod Heads
+pub mod Lanes

@@ -1,7 +1,7 @@
 -- The two searches of a search from both ends, between two of its steps; these words serve private clauses only.
 use Rattle.std.specs.Prelude.{ℕ, ◌+◌, ◌≡◌, List, length, ℤ}
-use Rattle.flow_model.specs.Instance.{Net}
-use Rattle.flow_solver.specs.Heads.{HasHeads}
+use Rattle.flow_solver.specs.declared.lanes.Lanes.{Lanes}
+use Rattle.flow_solver.specs.Lanes.{FitsLanes}
 use Rattle.std.specs.BinaryHeap.{IsHeap, heap_items}
 use Rattle.std.specs.Ordering.{nat_cmp}
 use Rattle.residual_net.specs.Residual.{ResidualNet}
@@ -25,9 +25,8 @@ pub record IsTwoSided (residual : ResidualNet) (p : List ℤ) (source destinatio
 abbrev pub size_of : Side → ℕ
 size_of side = sum_of_labels side.labels.items + length (heap_items side.heap)
 
--- the first arcs of an instance's directions, and two searches over its nodes
-pub record FitsSearch (net heads : Net) (source destination : Side) : Type 0 where
-  pub heads_are : HasHeads net.arcs heads.arcs (length net.arcs)
-  pub head_nodes : heads.nodes ≡ net.nodes
-  pub source_long : length source.parents.items ≡ net.nodes
-  pub destination_long : length destination.parents.items ≡ net.nodes
+-- the lanes of a network's directions, and two searches over its nodes
+pub record FitsSearch (residual : ResidualNet) (lanes : Lanes) (source destination : Side) : Type 0 where
+  pub lanes_fit : FitsLanes residual lanes.starts.items lanes.lanes.items
+  pub source_long : length source.parents.items ≡ residual.net.nodes
+  pub destination_long : length destination.parents.items ≡ residual.net.nodes

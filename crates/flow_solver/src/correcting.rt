@@ -99,7 +99,7 @@ fn search_by_passes(
 }
 
 impl Augment for Correcting {
-    ghost fits = { λ s net. Unit {0} };
+    ghost fits = { λ s residual. Unit {0} };
 
     fn augment(
         &mut self,

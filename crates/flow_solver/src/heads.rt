@@ -52,7 +52,7 @@ fn is_first(arcs: &[Arc], i: usize) -> bool
 }
 
 /// The head of a direction whose first arc this is.
-fn head_at(arc: Arc, index: u32) -> Arc
+pub(crate) fn head_at(arc: Arc, index: u32) -> Arc
     ensures { result ≡ record { from = arc.from; to = arc.to; room = arc.room; cost = arc.cost; dir = index } }
 {
     Arc { dir: index, ..arc }

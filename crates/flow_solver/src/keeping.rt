@@ -1,18 +1,19 @@
-ghost use Rattle.std.specs.Prelude.{◌≡◌, ◌<◌, ◌≤◌, IfOk};
+ghost use Rattle.std.specs.Prelude.{◌≡◌, ◌<◌, ◌≤◌, All, IfOk};
+ghost use Rattle.residual_net.specs.Residual.{HasDistinctArcs, HasRoomFor, flow_after};
+ghost use Rattle.flow_solver.specs.Lanes.{FitsLanes};
 ghost use Rattle.flow_solver.specs.Search.{IsPartialSolution};
 ghost use Rattle.flow_solver.specs.Meeting.{IsCarriedOn};
 
 use crate::advance::{least_room, walk};
 use crate::flow_net::FlowNet;
-use crate::heads::heads_of;
 use crate::labels::{UNREACHED, reached_nodes};
+use crate::lanes::{Lanes, mark, open_lanes};
 use crate::lift::{carry, lift};
 use crate::meeting::{Found, meet};
 use crate::side::{Side, begin, no_side};
 use crate::successive::{Augment, Augmented, solve_by};
 use flow_model::{Instance, Solve, Solved};
 use plan_base::NoMemory;
-use residual_net::Residual;
 use std::alloc::Global;
 
 /// Successive shortest paths with potentials (Edmonds and Karp 1972; Johnson 1977): each search goes by reduced costs,
@@ -24,12 +25,25 @@ use std::alloc::Global;
 #[derive(Clone, Copy, Debug)]
 pub struct Keeping;
 
+/// Pushes an amount along a path, and marks the lanes of its directions.
+fn push_on(residual: &mut FlowNet, lanes: &mut Lanes, path: &[(u32, bool)], amount: u64)
+    requires room { All (HasRoomFor residual.old.net.arcs residual.old.flow amount) path.now }
+    requires distinct { HasDistinctArcs path.now }
+    requires lanes { FitsLanes residual.old lanes.old.starts.items lanes.old.lanes.items }
+    ensures value { residual.new ≡ record { net = residual.old.net; flow = flow_after residual.old.flow amount path.now } }
+    ensures lanes { FitsLanes residual.new lanes.new.starts.items lanes.new.lanes.items }
+{
+    residual.push_path(path, amount);
+    mark(lanes, residual.arcs(), path);
+}
+
 /// Sends more units along the path that a search found, and lifts the potentials so that they show the new flow; how
 /// many units are sent then.
 fn push_found(
     alloc: Global,
     instance: &Instance,
     residual: &mut FlowNet,
+    lanes: &mut Lanes,
     potentials: &mut [i128],
     source: &Side,
     destination: &Side,
@@ -39,11 +53,13 @@ fn push_found(
     requires net { residual.old.net ≡ instance.now }
     requires less { sent < instance.now.demand }
     requires partial { IsPartialSolution residual.old potentials.old sent }
+    requires lanes { FitsLanes residual.old lanes.old.starts.items lanes.old.lanes.items }
     requires carried { IsCarriedOn residual.old potentials.old source.now.labels.items source.now.parents.items destination.now.labels.items found.radius found.best }
     ensures more { IfOk result (λ n. sent < n) }
     ensures most { IfOk result (λ n. n ≤ instance.now.demand) }
     ensures partial { IfOk result (λ n. IsPartialSolution residual.new potentials.new n) }
     ensures net { IfOk result (λ n. residual.new.net ≡ residual.old.net) }
+    ensures lanes { IfOk result (λ n. FitsLanes residual.new lanes.new.starts.items lanes.new.lanes.items) }
 {
     let path = walk(
         alloc,
@@ -60,23 +76,23 @@ fn push_found(
         found.radius,
         found.best - found.radius,
     );
-    residual.push_path(&path, amount);
+    push_on(residual, lanes, &path, amount);
     Ok(sent + amount)
 }
 
-/// A search from both ends over an instance: the first arcs of the instance's directions, by node, and the two searches,
-/// which keep their memory from one augmentation to the next.
+/// A search from both ends over an instance: the instance's directions, by node, and the two searches, which keep their
+/// memory from one augmentation to the next.
 #[derive(Drop)]
-struct KeepingSearch<'a> {
-    heads: Residual<'a>,
+struct KeepingSearch {
+    lanes: Lanes,
     source: Side,
     destination: Side,
 }
 
-impl<'a> Augment for KeepingSearch<'a> {
+impl Augment for KeepingSearch {
     ghost use Rattle.flow_solver.specs.TwoSided.{FitsSearch};
 
-    ghost fits = { λ s net. FitsSearch net s.heads.net s.source s.destination };
+    ghost fits = { λ s residual. FitsSearch residual s.lanes s.source s.destination };
 
     fn augment(
         &mut self,
@@ -92,7 +108,7 @@ impl<'a> Augment for KeepingSearch<'a> {
         begin(&mut self.destination, nodes, end)?;
         let found = meet(
             residual,
-            &self.heads,
+            &self.lanes,
             potentials,
             &mut self.source,
             &mut self.destination,
@@ -114,6 +130,7 @@ impl<'a> Augment for KeepingSearch<'a> {
             alloc,
             instance,
             residual,
+            &mut self.lanes,
             potentials,
             &self.source,
             &self.destination,
@@ -126,10 +143,8 @@ impl<'a> Augment for KeepingSearch<'a> {
 
 impl Solve for Keeping {
     fn solve(&self, alloc: Global, instance: &Instance) -> Result<Solved, NoMemory> {
-        let firsts = heads_of(alloc, instance)?;
-        let heads = Residual::open(alloc, &firsts)?;
         let mut search = KeepingSearch {
-            heads,
+            lanes: open_lanes(alloc, instance)?,
             source: no_side(alloc, instance.nodes())?,
             destination: no_side(alloc, instance.nodes())?,
         };

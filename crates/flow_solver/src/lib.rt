@@ -8,6 +8,7 @@ mod flow_net;
 mod heads;
 mod keeping;
 mod labels;
+mod lanes;
 mod lift;
 mod meeting;
 mod queue;

@@ -5,17 +5,17 @@ ghost use Rattle.flow_model.specs.declared.limits.TheConstants.{NODES_MAX};
 ghost use Rattle.residual_net.specs.Residual.{IsResidualNet};
 ghost use Rattle.flow_solver.specs.declared.labels.TheConstants.{UNREACHED};
 ghost use Rattle.flow_solver.specs.Search.{HasBoundedPotentials, InOrder, IsFlowShown};
-ghost use Rattle.flow_solver.specs.Heads.{HasHeads};
+ghost use Rattle.flow_solver.specs.Lanes.{FitsLanes};
 ghost use Rattle.flow_solver.specs.Queue.{key_of};
 ghost use Rattle.flow_solver.specs.Meeting.{IsMet};
 ghost use Rattle.flow_solver.specs.TwoSided.{IsTwoSided, size_of};
 
 use crate::flow_net::FlowNet;
 use crate::labels::UNREACHED;
+use crate::lanes::Lanes;
 use crate::queue::{Meeting, expand};
 use crate::side::{Side, front};
 use plan_base::NoMemory;
-use residual_net::Residual;
 
 /// What a search from both ends finds: the best meeting, and how much of its path's length is within the part of the
 /// network that the source's search has settled.
@@ -54,15 +54,14 @@ fn radius_of(source: &Side, destination: &Side, best: u128) -> Option<u128>
 /// Lets the search that has tried fewer steps try those of one more node.
 fn expand_one(
     residual: &FlowNet,
-    heads: &Residual,
+    lanes: &Lanes,
     potentials: &[i128],
     source: &mut Side,
     destination: &mut Side,
     meeting: Meeting,
 ) -> Result<Meeting, NoMemory>
     requires order { InOrder residual.now.net.arcs residual.now.flow }
-    requires heads { HasHeads residual.now.net.arcs heads.now.net.arcs (length residual.now.net.arcs) }
-    requires head_nodes { heads.now.net.nodes ≡ residual.now.net.nodes }
+    requires lanes { FitsLanes residual.now lanes.now.starts.items lanes.now.lanes.items }
     requires bounded { HasBoundedPotentials residual.now.net potentials.now }
     requires shown { IsFlowShown residual.now potentials.now }
     requires two { IsTwoSided residual.now potentials.now source.old destination.old meeting.best meeting.node }
@@ -73,7 +72,7 @@ fn expand_one(
     if destination.heap.is_empty() {
         return Ok(expand(
             residual,
-            heads,
+            lanes,
             potentials,
             source,
             destination,
@@ -84,7 +83,7 @@ fn expand_one(
     if source.work <= destination.work {
         return Ok(expand(
             residual,
-            heads,
+            lanes,
             potentials,
             source,
             destination,
@@ -94,7 +93,7 @@ fn expand_one(
     }
     Ok(expand(
         residual,
-        heads,
+        lanes,
         potentials,
         destination,
         source,
@@ -106,15 +105,14 @@ fn expand_one(
 /// Searches from both ends for the shortest path between them.
 pub(crate) fn meet(
     residual: &FlowNet,
-    heads: &Residual,
+    lanes: &Lanes,
     potentials: &[i128],
     source: &mut Side,
     destination: &mut Side,
 ) -> Result<Found, NoMemory>
     requires residual { IsResidualNet residual.now }
     requires order { InOrder residual.now.net.arcs residual.now.flow }
-    requires heads { HasHeads residual.now.net.arcs heads.now.net.arcs (length residual.now.net.arcs) }
-    requires head_nodes { heads.now.net.nodes ≡ residual.now.net.nodes }
+    requires lanes { FitsLanes residual.now lanes.now.starts.items lanes.now.lanes.items }
     requires bounded { HasBoundedPotentials residual.now.net potentials.now }
     requires shown { IsFlowShown residual.now potentials.now }
     requires two { IsTwoSided residual.now potentials.now source.old destination.old UNREACHED 0 }
@@ -135,6 +133,6 @@ pub(crate) fn meet(
                 radius,
             });
         }
-        meeting = expand_one(residual, heads, potentials, source, destination, meeting)?;
+        meeting = expand_one(residual, lanes, potentials, source, destination, meeting)?;
     }
 }

@@ -1,4 +1,4 @@
-ghost use Rattle.std.specs.Prelude.{◌≡◌, ◌<◌, ◌≤◌, ◌+◌, ◌^◌, ◌-ℤ◌, ◌+ℤ◌, ◌≤ℤ◌, ℕ, pos, min, nat_lt, All, Bool, cond, IfNone, IfOk, IfSome, OnOk, length, set, slice_index, slice_index_or};
+ghost use Rattle.std.specs.Prelude.{◌≡◌, ◌<◌, ◌≤◌, ◌+◌, ◌-◌, ◌^◌, ◌-ℤ◌, ◌+ℤ◌, ◌≤ℤ◌, ℕ, pos, min, nat_lt, All, Bool, cond, IfNone, IfOk, IfSome, OnOk, length, set, slice_index, slice_index_or};
 ghost use Rattle.flow_solver.specs.declared.labels.TheConstants.{UNREACHED};
 ghost use Rattle.std.specs.BinaryHeap.{IsHeap, heap_items};
 ghost use Rattle.std.specs.Ordering.{nat_cmp};
@@ -6,17 +6,16 @@ ghost use Rattle.flow_model.specs.Instance.{arc_at};
 ghost use Rattle.flow_model.specs.Potentials.{IsSmall};
 ghost use Rattle.flow_solver.specs.Search as words;
 ghost use Rattle.flow_solver.specs.Search.{HasBoundedPotentials, IsFlowShown, InOrder, IsRelaxedTo, IsSearchTree, sum_of_labels};
-ghost use Rattle.flow_solver.specs.Heads.{HasHeads};
+ghost use Rattle.flow_solver.specs.Lanes.{FitsLanes};
 ghost use Rattle.flow_solver.specs.Queue.{IsQueue, IsQueueProgress, IsRelaxedFrom};
 ghost use Rattle.flow_solver.specs.Turned.{seen, seen_potentials};
 ghost use Rattle.flow_solver.specs.Meeting.{IsMeeting, IsStepOf, reduced_cost};
 
 use crate::flow_net::FlowNet;
-use crate::heads::next_of;
+use crate::lanes::{Lanes, next_over};
 use crate::side::{Side, key_of, lower_end, node_of};
 use crate::steps::{NextStep, flipped};
 use plan_base::NoMemory;
-use residual_net::Residual;
 
 /// The length of the shortest path that two searches have found together, and a node of it that both reached.
 #[derive(Clone, Copy, Debug)]
@@ -147,7 +146,7 @@ fn queue_step(
 /// Lowers the labels of the far ends of all steps out of a node, or of all steps into it if the search is turned around.
 fn open_node(
     residual: &FlowNet,
-    heads: &Residual,
+    lanes: &Lanes,
     potentials: &[i128],
     side: &mut Side,
     other: &Side,
@@ -157,8 +156,7 @@ fn open_node(
 ) -> Result<Meeting, NoMemory>
     requires node { node < residual.now.net.nodes }
     requires order { InOrder residual.now.net.arcs residual.now.flow }
-    requires heads { HasHeads residual.now.net.arcs heads.now.net.arcs (length residual.now.net.arcs) }
-    requires head_nodes { heads.now.net.nodes ≡ residual.now.net.nodes }
+    requires lanes { FitsLanes residual.now lanes.now.starts.items lanes.now.lanes.items }
     requires bounded { HasBoundedPotentials residual.now.net potentials.now }
     requires shown { IsFlowShown residual.now potentials.now }
     requires tree { IsSearchTree (seen turned residual.now) (seen_potentials turned potentials.now) side.old.labels.items side.old.parents.items }
@@ -173,21 +171,29 @@ fn open_node(
 {
     let _arcs = residual.arcs();
     let mut found = meeting;
-    let firsts = heads.arcs();
-    let out = heads.out(node);
-    for step in out {
-        let head = firsts[step.0 as usize];
-        if let Some(next) = next_of(residual, head, flipped(step.1, turned)) {
+    let start = lanes.starts[node as usize];
+    let end = lanes.starts[node as usize + 1];
+    for q in start..end {
+        let lane = lanes.lanes[q];
+        if let Some(next) = next_over(residual, lane, node, flipped(lane.enters, turned)) {
             found = queue_step(residual, potentials, side, other, next, turned, found)?;
         }
     }
     Ok(found)
 }
 
+/// The number of lanes at a node.
+fn count_at(lanes: &Lanes, node: u32) -> u64
+    requires node { node + 1 < length lanes.now.starts.items }
+    ensures { result ≡ slice_index lanes.now.starts.items (node + 1) - slice_index lanes.now.starts.items node }
+{
+    lanes.starts[node as usize + 1].saturating_sub(lanes.starts[node as usize]) as u64
+}
+
 /// Takes the first node of a queue, and lowers labels by its steps.
 pub(crate) fn expand(
     residual: &FlowNet,
-    heads: &Residual,
+    lanes: &Lanes,
     potentials: &[i128],
     side: &mut Side,
     other: &Side,
@@ -195,8 +201,7 @@ pub(crate) fn expand(
     meeting: Meeting,
 ) -> Result<Meeting, NoMemory>
     requires order { InOrder residual.now.net.arcs residual.now.flow }
-    requires heads { HasHeads residual.now.net.arcs heads.now.net.arcs (length residual.now.net.arcs) }
-    requires head_nodes { heads.now.net.nodes ≡ residual.now.net.nodes }
+    requires lanes { FitsLanes residual.now lanes.now.starts.items lanes.now.lanes.items }
     requires bounded { HasBoundedPotentials residual.now.net potentials.now }
     requires shown { IsFlowShown residual.now potentials.now }
     requires tree { IsSearchTree (seen turned residual.now) (seen_potentials turned potentials.now) side.old.labels.items side.old.parents.items }
@@ -219,9 +224,9 @@ pub(crate) fn expand(
     let Some(node) = node_of(&side.labels, key) else {
         return Ok(meeting);
     };
-    side.work = side.work.saturating_add(heads.out(node).len() as u64);
+    side.work = side.work.saturating_add(count_at(lanes, node));
     let found = open_node(
-        residual, heads, potentials, side, other, node, turned, meeting,
+        residual, lanes, potentials, side, other, node, turned, meeting,
     )?;
     Ok(found)
 }

@@ -1,4 +1,4 @@
-ghost use Rattle.std.specs.Prelude.{◌≡◌, ◌<◌, ◌≤◌, All, IfOk, List, OnOk, ℕ};
+ghost use Rattle.std.specs.Prelude.{◌≡◌, ◌<◌, ◌≤◌, All, IfOk, List, length, replicate, ℕ};
 ghost use Rattle.flow_model.specs.Flow.{IsCheapest, IsFeasible, IsFilledInOrder};
 ghost use Rattle.flow_model.specs.Potentials.{IsSmall, ShowsCheapest};
 ghost use Rattle.flow_model.specs.Side.{Cuts};
@@ -21,10 +21,10 @@ pub(crate) enum Augmented {
 
 /// A search for a cheapest path from the source to the destination over the arcs' rooms.
 pub(crate) trait Augment {
-    ghost use Rattle.flow_model.specs.Instance.{Net};
+    ghost use Rattle.residual_net.specs.Residual.{ResidualNet};
     ghost use Rattle.flow_solver.specs.Augmented.{IfCutOff, IfSent};
 
-    ghost fits: { Self → Net → Type 0 };
+    ghost fits: { Self → ResidualNet → Type 0 };
 
     /// Sends more units along a cheapest path, and changes the potentials so that they show the new flow; or finds that
     /// no path is left.
@@ -36,11 +36,11 @@ pub(crate) trait Augment {
         potentials: &mut [i128],
         sent: u64,
     ) -> Result<Augmented, NoMemory>
-        requires fits { fits self.old instance.now }
+        requires fits { fits self.old residual.old }
         requires net { residual.old.net ≡ instance.now }
         requires less { sent < instance.now.demand }
         requires partial { IsPartialSolution residual.old potentials.old sent }
-        ensures fits { OnOk result (fits self.new instance.now) }
+        ensures fits { IfOk result (λ r. IfSent r (λ n. fits self.new residual.new)) }
         ensures more { IfOk result (λ r. IfSent r (λ n. sent < n)) }
         ensures most { IfOk result (λ r. IfSent r (λ n. n ≤ instance.now.demand)) }
         ensures partial { IfOk result (λ r. IfSent r (λ n. IsPartialSolution residual.new potentials.new n)) }
@@ -54,7 +54,7 @@ pub(crate) fn solve_by<A: Augment>(
     alloc: Global,
     instance: &Instance,
 ) -> Result<Solved, NoMemory>
-    requires { A.fits search.old instance.now }
+    requires { A.fits search.old (record { net = instance.now; flow = replicate (length instance.now.arcs) 0 }) }
     ensures cheapest { IfOk result (λ s. IfFlow s (λ flow p. IsCheapest instance.now flow)) }
     ensures in_order { IfOk result (λ s. IfFlow s (λ flow p. IsFilledInOrder instance.now flow)) }
     ensures shown { IfOk result (λ s. IfFlow s (λ flow p. ShowsCheapest instance.now flow p)) }

@@ -29,8 +29,8 @@ least_room-amount-requires-clause-rooms c =
     let way = subst (λ t. path ≡ parent_path arcs parents (length path) t) t (subst (λ ps. path ≡ parent_path arcs ps (length path) c.destination.result) c.deref.ensures.value c.in_ok-path.ensures.path) in
     subst (All (HasRoomFor c.args.residual.now.net.arcs c.args.residual.now.flow 1)) (sym c.deref-2.ensures.value) (path_rooms c.args.residual.now c.args.potentials.now c.args.source.now.labels.items parents c.args.sent c.requires.partial carried.tree near path chain way)
 
-pub push_path-requires-clause-distinct : goal.push_path-requires-clause-distinct
-push_path-requires-clause-distinct c =
+pub push_on-requires-clause-distinct : goal.push_on-requires-clause-distinct
+push_on-requires-clause-distinct c =
     let carried = c.requires.carried in
     let near : slice_index c.args.source.now.labels.items c.args.residual.now.net.destination < UNREACHED = (let a = carried.short in let b = carried.reached in omega (arith, a, b)) in
     let s = c.source.ensures ∙ ap (λ (n : Net). n.source) (sym c.requires.net) in
@@ -59,4 +59,4 @@ returns-clause-partial c =
     let rooms = subst (All (HasRoomFor c.args.residual.now.net.arcs c.args.residual.now.flow amount)) c.deref-2.ensures.value c.least_room-amount.ensures.rooms in
     let lifted = subst₂ (λ ds es. IsLifted c.args.potentials.now new ds es f.radius (f.best - f.radius)) c.deref-3.ensures.value c.deref-4.ensures.value c.lift.ensures in
     let after = met_advanced c.args.residual.now c.args.potentials.now carried.before c.args.source.now.labels.items parents c.args.destination.now.labels.items f.radius (f.best - f.radius) f.best c.args.sent c.requires.partial carried.met carried.tree carried.reached carried.short carried.kept new amount path chain way rooms lifted in
-    subst (λ (r : ResidualNet). IsPartialSolution r new (c.args.sent + amount)) (sym (c.push_path.ensures ∙ ap (λ (xs : List (ℕ × Bool)). record { net = c.args.residual.now.net; flow = flow_after c.args.residual.now.flow amount xs }) c.deref-5.ensures.value)) after
+    subst (λ (r : ResidualNet). IsPartialSolution r new (c.args.sent + amount)) (sym (c.push_on.ensures.value ∙ ap (λ (xs : List (ℕ × Bool)). record { net = c.args.residual.now.net; flow = flow_after c.args.residual.now.flow amount xs }) c.deref-5.ensures.value)) after

@@ -20,7 +20,7 @@ loop-sent-init g c =
     let flat = c.in_ok-potentials.ensures.items_if_clones_equal (λ y e. e) ∙ ap (λ n. replicate n (pos 0)) c.nodes.ensures.value in
     record {
       partial = subst (λ (r : ResidualNet). IsPartialSolution r p 0) (sym e) (first_state (record { net = c.args.instance.now; flow = replicate (length c.args.instance.now.arcs) 0 }) p (opened c.args.instance.now (replicate (length c.args.instance.now.arcs) 0) c.nodes.ensures.bounds refl) refl flat);
-      fits = c.requires;
+      fits = subst (λ (r : ResidualNet). g.A.Augment.fits c.args.search.now r) (sym e) c.requires;
       net = ap (λ (r : ResidualNet). r.net) e;
       most = omega arith;
     }
@@ -38,7 +38,7 @@ loop-sent-preserved g c =
     let long = partial.bounded.long ∙ nodes ∙ sym inv.partial.bounded.long ∙ len in
     record {
       partial = subst (λ (p : List ℤ). IsPartialSolution c.augment.new.residual p c.in-Sent.units) (sym (whole_again new c.loop-sent.potentials.items c.loop-sent.potentials.len long len)) partial;
-      fits = found.fits;
+      fits = subst (λ r. IfSent r (λ n. g.A.Augment.fits c.augment.new.self c.augment.new.residual)) c.in-Sent.is found.fits;
       net = net ∙ inv.net;
       most = most;
     }

@@ -5,7 +5,7 @@ use Rattle.flow_solver.proofs.successive.solve_by.Given as goal
 abbrev pub invariant-loop-sent : goal.invariant-loop-sent
 invariant-loop-sent g l = record {
   partial : IsPartialSolution l.residual l.potentials.items l.sent;
-  fits : g.A.Augment.fits l.search l.instance;
+  fits : g.A.Augment.fits l.search l.residual;
   net : l.residual.net ≡ l.instance;
   most : l.sent ≤ l.instance.demand;
 }

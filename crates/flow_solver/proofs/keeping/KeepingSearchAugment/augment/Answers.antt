@@ -26,8 +26,8 @@ meet-requires-clause-two c =
     let nodes = c.nodes-nodes.ensures.value in
     let labels = near.labels ∙ ap (λ n. set (replicate n UNREACHED) c.source.result 0) nodes ∙ ap (λ (n : Net). set (replicate n.nodes UNREACHED) c.source.result 0) net ∙ ap (λ v. set (replicate residual.net.nodes UNREACHED) v 0) s in
     let others = far.labels ∙ ap (λ n. set (replicate n UNREACHED) c.destination-end.result 0) nodes ∙ ap (λ (n : Net). set (replicate n.nodes UNREACHED) c.destination-end.result 0) net ∙ ap (λ v. set (replicate residual.net.nodes UNREACHED) v 0) t in
-    let tree = first_tree residual p c.begin.new.side.labels.items c.begin.new.side.parents.items ok labels (ap (length {A = ℕ × Bool}) near.parents ∙ c.requires.fits.source_long ∙ ap (λ (n : Net). n.nodes) net) in
-    let back = first_tree (turned residual) (against p) c.begin-2.new.side.labels.items c.begin-2.new.side.parents.items (turned_ok residual ok) others (ap (length {A = ℕ × Bool}) far.parents ∙ c.requires.fits.destination_long ∙ ap (λ (n : Net). n.nodes) net) in
+    let tree = first_tree residual p c.begin.new.side.labels.items c.begin.new.side.parents.items ok labels (ap (length {A = ℕ × Bool}) near.parents ∙ c.requires.fits.source_long) in
+    let back = first_tree (turned residual) (against p) c.begin-2.new.side.labels.items c.begin-2.new.side.parents.items (turned_ok residual ok) others (ap (length {A = ℕ × Bool}) far.parents ∙ c.requires.fits.destination_long) in
     record {
       tree = tree;
       heap = near.heap;
