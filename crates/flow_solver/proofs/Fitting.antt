@@ -1,95 +1,123 @@
--- Lanes: how they are opened, what stays as some are marked, and the lane of a step out of a node.
+-- Lanes: how they are made, what stays as some are marked, and the lane of a step out of a node.
 use Rattle.std.proofs.Common.{ℕ, zero, suc, ◌+◌, ◌-◌, ◌<◌, ◌≤◌, ◌≡◌, Bool, true, false, List, [], ◌∷◌, ◌++◌, sym, refl, ap, ◌∙◌, subst, ⊎_elim, arith, length}
-use Rattle.std.specs.Prelude.{cond, replicate, set, slice_index, slice_index_or}
+use Rattle.std.specs.Prelude.{cond, drop, replicate, set, slice_index, slice_index_or, take}
 use Rattle.std.proofs.lemmas.Bool.{both_ways, cases_Bool, cases_eq, cases_lt}
-use Rattle.std.proofs.lemmas.Grind.{get_or_default_zero}
-use Rattle.std.proofs.lemmas.List.{length-append, get_or_append_left, get_or-set_same, get_or-set_other}
+use Rattle.std.proofs.lemmas.List.{length-append, length-drop, length-replicate, length-take-le, get_or_append_left, get_or-drop, get_or-replicate, get_or-set_same, get_or-set_other, get_or-take}
 use Rattle.std.proofs.Math.Seq.{get_or-append_seam}
 use lib.ListN.{length-set}
 use Rattle.flow_model.specs.declared.instance.Arc.{Arc}
 use Rattle.flow_model.specs.Instance.{Net, arc_at}
 use Rattle.residual_net.specs.Residual.{ResidualNet, IsResidualNet, flow_after, steps_out, units_after}
 use Rattle.flow_solver.specs.declared.lanes.Lane.{Lane}
+use Rattle.flow_solver.specs.declared.lanes.TheConstants.{UNMADE}
 use Rattle.flow_solver.specs.Heads.{HasHeads, IsHead, IsOnlyNext, HasNoNext}
-use Rattle.flow_solver.specs.Lanes.{FitsLanes, HasLanes, IsLaneOf, IsMarked, IsMarkedAt, IsMarkedIn, IsRowTo, first_of, lane_at, lane_of, no_lane, step_of, unmarked}
+use Rattle.flow_solver.specs.Lanes.{FitsLanes, HasMadeRows, IsKnown, IsLaneOf, IsMade, IsMarked, IsMarkedAt, IsMarkedIn, IsMarkedOver, IsRow, IsRowAt, IsRowTo, first_of, lane_at, lane_of, no_lane, step_of, unmarked}
 use Rattle.flow_solver.specs.Meeting.{IsStepOf}
 use Rattle.flow_solver.specs.Search.{InOrder, tail_of, head_of}
 use Rattle.flow_solver.proofs.Firsts.{all_rooms, backward_none, forward_is, head_step}
 use Rattle.flow_solver.proofs.Outgoing.{out_known, out_tails}
 
-pub row_init : (heads : List Arc) (v : ℕ) (old : List Lane) → IsRowTo heads v 0 old old
-row_init heads v old = record { long = omega arith; kept = λ q l. refl; added = λ k l. absurd (omega (arith, l)) }
+pub row_init : (flow : List ℕ) (heads : List Arc) (v : ℕ) (old : List Lane) → IsRowTo flow heads v 0 old old
+row_init flow heads v old = record { long = omega arith; kept = λ q l. refl; row = record { each = λ k l. absurd (omega (arith, l)); known = λ k l. absurd (omega (arith, l)) } }
 
-pub row_turn : (heads : List Arc) (v j : ℕ) (old now new : List Lane) (lane : Lane) → new ≡ now ++ lane ∷ [] → lane ≡ lane_of heads (step_of heads v j) → IsRowTo heads v j old now → IsRowTo heads v (j + 1) old new
-row_turn heads v j old now new lane e is so = subst (IsRowTo heads v (j + 1) old) (sym e) record {
+pub row_turn : (flow : List ℕ) (heads : List Arc) (v j : ℕ) (old now new : List Lane) (lane : Lane) → new ≡ now ++ lane ∷ [] → unmarked lane ≡ lane_of heads (step_of heads v j) → IsKnown flow lane → IsRowTo flow heads v j old now → IsRowTo flow heads v (j + 1) old new
+row_turn flow heads v j old now new lane e is known so = subst (IsRowTo flow heads v (j + 1) old) (sym e) record {
   long = let n = length-append now (lane ∷ []) in let m = so.long in omega (arith, n, m);
   kept = λ q l. get_or_append_left now (lane ∷ []) no_lane q (let m = so.long in omega (arith, m, l)) ∙ so.kept q l;
-  added = λ k l. ⊎_elim
-      (λ (less : k < j). get_or_append_left now (lane ∷ []) no_lane (length old + k) (let m = so.long in omega (arith, m, less)) ∙ so.added k less)
-      (λ (ge : j ≤ k).
-      let at : k ≡ j = omega (arith, ge, l) in
-      let here : length old + k ≡ length now = (let m = so.long in omega (arith, m, at)) in
-      ap (lane_at (now ++ lane ∷ [])) here ∙ get_or-append_seam now lane [] no_lane ∙ is ∙ ap (λ n. lane_of heads (step_of heads v n)) (sym at))
-      (cases_lt k j);
-}
-
-pub lanes_init : (heads : List Arc) (starts : List ℕ) (lanes : List Lane) → starts ≡ 0 ∷ [] → lanes ≡ [] → HasLanes heads 0 starts lanes
-lanes_init heads starts lanes e f = record {
-  long = ap (length {A = ℕ}) e;
-  last = ap (λ (xs : List ℕ). slice_index xs 0) e ∙ sym (ap (length {A = Lane}) f);
-  spans = λ v l. absurd (omega (arith, l));
-  most = λ v l. absurd (omega (arith, l));
-  each = λ v k l m. absurd (omega (arith, l));
-}
-
-pub lanes_turn : (heads : List Arc) (n : ℕ) (starts newer : List ℕ) (lanes new : List Lane) (end : ℕ) → newer ≡ starts ++ end ∷ [] → end ≡ length new → IsRowTo heads n (length (steps_out heads n)) lanes new → HasLanes heads n starts lanes → HasLanes heads (n + 1) newer new
-lanes_turn heads n starts newer lanes new end e is row so = subst (λ (xs : List ℕ). HasLanes heads (n + 1) xs new) (sym e) record {
-  long = let m = length-append starts (end ∷ []) in let l = so.long in omega (arith, m, l);
-  last = at_end ∙ is;
-  spans = λ v l. ⊎_elim
-      (λ (less : v < n). let a = old (v + 1) (omega (arith, less)) in let b = old v (omega (arith, less)) in let s = so.spans v less in omega (arith, a, b, s))
-      (λ (ge : n ≤ v).
-      let at : n ≡ v = omega (arith, ge, l) in
-      subst (λ w. slice_index (starts ++ end ∷ []) (w + 1) ≡ slice_index (starts ++ end ∷ []) w + length (steps_out heads w)) at
-      (let b = old n (omega arith) in let s = so.last in let r = row.long in let a = at_end in omega (arith, a, b, s, r, is)))
-      (cases_lt v n);
-  most = λ v l. ⊎_elim
-      (λ (less : v < n). let a = old (v + 1) (omega (arith, less)) in let m = so.most v less in let r = row.long in omega (arith, a, m, r))
-      (λ (ge : n ≤ v). let f = ap (λ w. slice_index (starts ++ end ∷ []) (w + 1)) (at_last v l ge) in let a = at_end in omega (arith, f, a, is))
-      (cases_lt v n);
-  each = λ v k l m. ⊎_elim
-      (λ (less : v < n).
-      let b = old v (omega (arith, less)) in
-      let most = so.most v less in
-      let span = so.spans v less in
-      ap (λ w. unmarked (lane_at new (w + k))) b ∙ ap unmarked (row.kept (slice_index starts v + k) (omega (arith, most, span, m))) ∙ so.each v k less m)
-      (λ (ge : n ≤ v).
-      subst (λ w. unmarked (lane_at new (slice_index (starts ++ end ∷ []) w + k)) ≡ lane_of heads (step_of heads w k)) (sym (at_last v l ge))
-      (ap (λ w. unmarked (lane_at new (w + k))) (old n (omega arith) ∙ so.last) ∙ ap unmarked (row.added k (subst (λ w. k < length (steps_out heads w)) (at_last v l ge) m))))
-      (cases_lt v n);
+  row = record {
+    each = λ k l. ⊎_elim
+        (λ (less : k < j). ap unmarked (left k less) ∙ so.row.each k less)
+        (λ (ge : j ≤ k). ap unmarked (seam k ge l) ∙ is ∙ ap (λ n. lane_of heads (step_of heads v n)) (let at : j ≡ k = omega (arith, ge, l) in at))
+        (cases_lt k j);
+    known = λ k l. ⊎_elim
+        (λ (less : k < j). subst (IsKnown flow) (sym (left k less)) (so.row.known k less))
+        (λ (ge : j ≤ k). subst (IsKnown flow) (sym (seam k ge l)) known)
+        (cases_lt k j);
+  };
 }
   where
-    old : (v : ℕ) → v ≤ n → slice_index (starts ++ end ∷ []) v ≡ slice_index starts v
-    old v l = get_or_append_left starts (end ∷ []) 0 v (let m = so.long in omega (arith, m, l))
+    left : (k : ℕ) → k < j → lane_at (now ++ lane ∷ []) (length old + k) ≡ lane_at now (length old + k)
+    left k less = get_or_append_left now (lane ∷ []) no_lane (length old + k) (let m = so.long in omega (arith, m, less))
 
-    at_end : slice_index (starts ++ end ∷ []) (n + 1) ≡ end
-    at_end = ap (slice_index (starts ++ end ∷ [])) (sym so.long) ∙ get_or-append_seam starts end [] 0
+    seam : (k : ℕ) → j ≤ k → k < j + 1 → lane_at (now ++ lane ∷ []) (length old + k) ≡ lane
+    seam k ge l = let here : length old + k ≡ length now = (let m = so.long in omega (arith, m, ge, l)) in ap (lane_at (now ++ lane ∷ [])) here ∙ get_or-append_seam now lane [] no_lane
 
-    at_last : (v : ℕ) → v < n + 1 → n ≤ v → v ≡ n
-    at_last v l ge = omega (arith, l, ge)
-
-pub zero_at : (n i : ℕ) → slice_index (replicate n 0) i ≡ 0
-zero_at zero i = refl
-zero_at (suc n) zero = refl
-zero_at (suc n) (suc i) = zero_at n i
-
-pub lanes_open : (net : Net) (heads : List Arc) (starts : List ℕ) (lanes : List Lane) → HasHeads net.arcs heads (length net.arcs) → HasLanes heads net.nodes starts lanes → FitsLanes (record { net = net; flow = replicate (length net.arcs) 0 }) starts lanes
-lanes_open net heads starts lanes is rows = record {
-  heads = heads;
-  heads_are = is;
-  rows = rows;
-  unused = λ v k l m off. zero_at (length net.arcs) (lane_at lanes (slice_index starts v + k)).first;
+row_kept : (flow : List ℕ) (heads : List Arc) (v start j : ℕ) (lanes new : List Lane) → start + j ≤ length lanes → ((q : ℕ) → q < length lanes → lane_at new q ≡ lane_at lanes q) → IsRowAt flow heads v start j lanes → IsRowAt flow heads v start j new
+row_kept flow heads v start j lanes new most kept so = record {
+  each = λ k l. ap unmarked (kept (start + k) (omega (arith, most, l))) ∙ so.each k l;
+  known = λ k l. subst (IsKnown flow) (sym (kept (start + k) (omega (arith, most, l)))) (so.known k l);
 }
+
+-- lanes still fit after those of one more node were appended
+pub row_made : (residual : ResidualNet) (heads : Net) (starts newer : List ℕ) (lanes new : List Lane) (node start : ℕ) → node < residual.net.nodes → start ≡ length lanes → newer ≡ set starts node start → IsRowTo residual.flow heads.arcs node (length (steps_out heads.arcs node)) lanes new → FitsLanes residual heads starts lanes → FitsLanes residual heads newer new
+row_made residual heads starts newer lanes new node start inside is e row fit = subst (λ ss. FitsLanes residual heads ss new) (sym e) record {
+  heads_are = fit.heads_are;
+  nodes = fit.nodes;
+  held = record {
+    long = length-set starts node start ∙ fit.held.long;
+    most = λ v l made. ⊎_elim
+        (λ (at : v ≡ node). let s = place v at in let n = ap (λ w. length (steps_out heads.arcs w)) at in let r = row.long in omega (arith, s, n, r))
+        (λ (ne : v ≡ node → ⊥). let s = other v ne in let m = fit.held.most v l (before v ne made) in let r = row.long in omega (arith, s, m, r))
+        (cases_eq v node);
+  };
+  rows = λ v l made. ⊎_elim
+      (λ (at : v ≡ node). subst (λ s. IsRowAt residual.flow heads.arcs v s (length (steps_out heads.arcs v)) new) (sym (place v at)) (subst (λ w. IsRowAt residual.flow heads.arcs w (length lanes) (length (steps_out heads.arcs w)) new) (sym at) row.row))
+      (λ (ne : v ≡ node → ⊥).
+      let now = before v ne made in
+      subst (λ s. IsRowAt residual.flow heads.arcs v s (length (steps_out heads.arcs v)) new) (sym (other v ne)) (row_kept residual.flow heads.arcs v (slice_index starts v) (length (steps_out heads.arcs v)) lanes new (fit.held.most v l now) row.kept (fit.rows v l now)))
+      (cases_eq v node);
+}
+  where
+    place : (v : ℕ) → v ≡ node → slice_index (set starts node start) v ≡ length lanes
+    place v at = ap (slice_index (set starts node start)) at ∙ get_or-set_same starts node start 0 (let a = fit.held.long in let b = fit.nodes in omega (arith, a, b, inside)) ∙ is
+
+    other : (v : ℕ) → (v ≡ node → ⊥) → slice_index (set starts node start) v ≡ slice_index starts v
+    other v ne = get_or-set_other starts node v start 0 ne
+
+    before : (v : ℕ) → (v ≡ node → ⊥) → IsMade (set starts node start) v → IsMade starts v
+    before v ne made = subst (λ s. s < UNMADE) (other v ne) made
+
+none_made : (n v : ℕ) → v < n → slice_index (replicate n UNMADE) v < UNMADE → ⊥
+none_made n v l made = let e = get_or-replicate n v UNMADE 0 l in omega (arith, e, made)
+
+pub lanes_open : (residual : ResidualNet) (heads : Net) (starts : List ℕ) → HasHeads residual.net.arcs heads.arcs (length residual.net.arcs) → heads.nodes ≡ residual.net.nodes → starts ≡ replicate residual.net.nodes UNMADE → FitsLanes residual heads starts []
+lanes_open residual heads starts is nodes e = subst (λ ss. FitsLanes residual heads ss []) (sym (e ∙ ap (λ n. replicate n UNMADE) (sym nodes))) record {
+  heads_are = is;
+  nodes = nodes;
+  held = record {
+    long = length-replicate heads.nodes UNMADE;
+    most = λ v l made. absurd (none_made heads.nodes v l made);
+  };
+  rows = λ v l made. absurd (none_made heads.nodes v l made);
+}
+
+-- the lanes at a node as a list of their own
+pub row_is : (residual : ResidualNet) (heads : Net) (starts : List ℕ) (lanes row : List Lane) (node : ℕ) → node < residual.net.nodes → IsMade starts node → row ≡ take (length (steps_out heads.arcs node)) (drop (slice_index starts node) lanes) → FitsLanes residual heads starts lanes → IsRow residual node row
+row_is residual heads starts lanes row node inside made e fit = subst (IsRow residual node) (sym e) record {
+  heads = heads.arcs;
+  heads_are = fit.heads_are;
+  long = long;
+  each = λ k l. let m : k < n = (let a = long in omega (arith, a, l)) in ap unmarked (here k m) ∙ so.each k m;
+  known = λ k l. let m : k < n = (let a = long in omega (arith, a, l)) in subst (IsKnown residual.flow) (sym (here k m)) (so.known k m);
+}
+  where
+    n : ℕ
+    n = length (steps_out heads.arcs node)
+
+    start : ℕ
+    start = slice_index starts node
+
+    known_node : node < heads.nodes
+    known_node = let a = fit.nodes in omega (arith, a, inside)
+
+    so : IsRowAt residual.flow heads.arcs node start n lanes
+    so = fit.rows node known_node made
+
+    long : length (take n (drop start lanes)) ≡ n
+    long = length-take-le n (drop start lanes) (let a = length-drop start lanes in let b = fit.held.most node known_node made in omega (arith, a, b))
+
+    here : (k : ℕ) → k < n → lane_at (take n (drop start lanes)) k ≡ lane_at lanes (start + k)
+    here k l = get_or-take n (drop start lanes) k no_lane l ∙ get_or-drop start lanes k no_lane
 
 pub marked_none : (lanes : List Lane) → IsMarked lanes lanes
 marked_none lanes = record { long = refl; same = λ q. refl; stays = λ q e. e }
@@ -100,13 +128,23 @@ marked_on lanes now new a b = record { long = b.long ∙ a.long; same = λ q. b.
 pub marked_in : (now new : List Lane) (start end first : ℕ) → IsMarked now new → IsMarkedIn now start end first → IsMarkedIn new start end first
 marked_in now new start end first so all q ge less is = so.stays q (all q ge less (sym (ap (λ (l : Lane). l.first) (so.same q)) ∙ is))
 
-pub marked_at : (starts : List ℕ) (now new : List Lane) (arc : Arc) (first : ℕ) → IsMarked now new → IsMarkedAt starts now arc first → IsMarkedAt starts new arc first
-marked_at starts now new arc first so all = (marked_in now new _ _ first so all.0, marked_in now new _ _ first so all.1)
+pub marked_at : (heads : List Arc) (starts : List ℕ) (now new : List Lane) (v first : ℕ) → IsMarked now new → IsMarkedAt heads starts now v first → IsMarkedAt heads starts new v first
+marked_at heads starts now new v first so all made = marked_in now new (slice_index starts v) (slice_index starts v + length (steps_out heads v)) first so (all made)
 
-pub mark_path_turn : (starts newer : List ℕ) (arcs : List Arc) (path : List (ℕ × Bool)) (now new : List Lane) (j : ℕ) → newer ≡ starts → IsMarked now new → IsMarkedAt newer new (arc_at arcs (slice_index_or path j (0, false)).0) (slice_index_or path j (0, false)).0 → ((m : ℕ) → m < j → IsMarkedAt starts now (arc_at arcs (slice_index_or path m (0, false)).0) (slice_index_or path m (0, false)).0) → (m : ℕ) → m < j + 1 → IsMarkedAt newer new (arc_at arcs (slice_index_or path m (0, false)).0) (slice_index_or path m (0, false)).0
-mark_path_turn starts newer arcs path now new j e so last all m l = ⊎_elim
-    (λ (less : m < j). subst (λ ss. IsMarkedAt ss new (arc_at arcs (slice_index_or path m (0, false)).0) (slice_index_or path m (0, false)).0) (sym e) (marked_at starts now new (arc_at arcs (slice_index_or path m (0, false)).0) (slice_index_or path m (0, false)).0 so (all m less)))
-    (λ (ge : j ≤ m). let at : j ≡ m = omega (arith, ge, l) in subst (λ n. IsMarkedAt newer new (arc_at arcs (slice_index_or path n (0, false)).0) (slice_index_or path n (0, false)).0) at last)
+pub marked_over : (heads : List Arc) (starts : List ℕ) (now new : List Lane) (arc : Arc) (first : ℕ) → IsMarked now new → IsMarkedOver heads starts now arc first → IsMarkedOver heads starts new arc first
+marked_over heads starts now new arc first so all = (marked_at heads starts now new arc.from first so all.0, marked_at heads starts now new arc.to first so all.1)
+
+pub rows_marked : (heads : Net) (starts : List ℕ) (lanes new : List Lane) → IsMarked lanes new → HasMadeRows heads starts lanes → HasMadeRows heads starts new
+rows_marked heads starts lanes new so held = record { long = held.long; most = λ v l made. let a = held.most v l made in let b = so.long in omega (arith, a, b) }
+
+-- the lanes over the first steps of a path are marked
+abbrev pub IsPathMarked : List Arc → List ℕ → List Arc → List (ℕ × Bool) → ℕ → List Lane → Type 0
+IsPathMarked heads starts arcs path j lanes = (m : ℕ) → m < j → IsMarkedOver heads starts lanes (arc_at arcs (slice_index_or path m (0, false)).0) (slice_index_or path m (0, false)).0
+
+pub mark_path_turn : (heads : List Arc) (starts : List ℕ) (arcs : List Arc) (path : List (ℕ × Bool)) (now new : List Lane) (j : ℕ) → IsMarked now new → IsMarkedOver heads starts new (arc_at arcs (slice_index_or path j (0, false)).0) (slice_index_or path j (0, false)).0 → IsPathMarked heads starts arcs path j now → IsPathMarked heads starts arcs path (j + 1) new
+mark_path_turn heads starts arcs path now new j so last all m l = ⊎_elim
+    (λ (less : m < j). marked_over heads starts now new (arc_at arcs (slice_index_or path m (0, false)).0) (slice_index_or path m (0, false)).0 so (all m less))
+    (λ (ge : j ≤ m). let at : j ≡ m = omega (arith, ge, l) in subst (λ n. IsMarkedOver heads starts new (arc_at arcs (slice_index_or path n (0, false)).0) (slice_index_or path n (0, false)).0) at last)
     (cases_lt m j)
 
 pub mark_turn : (lanes now new : List Lane) (start q first : ℕ) (lane : Lane) → q < length now → new ≡ set now q lane → unmarked lane ≡ unmarked (lane_at now q) → ((lane_at now q).used ≡ true → lane.used ≡ true) → ((lane_at now q).first ≡ first → lane.used ≡ true) → IsMarked lanes now × IsMarkedIn now start q first → IsMarked lanes new × IsMarkedIn new start (q + 1) first
@@ -144,64 +182,52 @@ flow_other flow amount (s ∷ path) i none =
     flow_other (set flow s.0 (units_after (slice_index flow s.0) amount s.1)) amount path i (λ m l. none (suc m) (omega (arith, l)))
     ∙ get_or-set_other flow s.0 i (units_after (slice_index flow s.0) amount s.1) 0 (λ e. none 0 (omega arith) (sym e))
 
-module _ (residual : ResidualNet) (starts : List ℕ) (lanes : List Lane) (fit : FitsLanes residual starts lanes) (v k : ℕ) (lv : v < residual.net.nodes) (lk : k < length (steps_out fit.heads v)) where
-  abbrev here : Lane
-  here = lane_at lanes (slice_index starts v + k)
-
+module _ (residual : ResidualNet) (heads : List Arc) (has : HasHeads residual.net.arcs heads (length residual.net.arcs)) (v k : ℕ) (lk : k < length (steps_out heads v)) (lane : Lane) (is : unmarked lane ≡ lane_of heads (step_of heads v k)) where
   abbrev step : ℕ × Bool
-  step = step_of fit.heads v k
+  step = step_of heads v k
 
-  step_known : step.0 < length fit.heads
-  step_known = out_known fit.heads v k (0, false) lk
+  step_known : step.0 < length heads
+  step_known = out_known heads v k (0, false) lk
 
-  pub lane_first : here.first ≡ (arc_at fit.heads step.0).dir
-  lane_first = ap (λ (x : Lane). x.first) (fit.rows.each v k lv lk)
+  pub lane_first : lane.first ≡ (arc_at heads step.0).dir
+  lane_first = ap (λ (x : Lane). x.first) is
 
-  pub lane_enters : here.enters ≡ step.1
-  lane_enters = ap (λ (x : Lane). x.enters) (fit.rows.each v k lv lk)
+  pub lane_enters : lane.enters ≡ step.1
+  lane_enters = ap (λ (x : Lane). x.enters) is
 
-  is_head : IsHead residual.net.arcs (arc_at fit.heads step.0)
-  is_head = fit.heads_are.each step.0 step_known
+  is_head : IsHead residual.net.arcs (arc_at heads step.0)
+  is_head = has.each step.0 step_known
 
-  tail_is : (b : Bool) → tail_of (arc_at fit.heads step.0) b ≡ tail_of (first_of residual.net.arcs here.first) b
+  tail_is : (b : Bool) → tail_of (arc_at heads step.0) b ≡ tail_of (first_of residual.net.arcs lane.first) b
   tail_is true = is_head.to ∙ ap (λ i. (arc_at residual.net.arcs i).to) (sym lane_first)
   tail_is false = is_head.from ∙ ap (λ i. (arc_at residual.net.arcs i).from) (sym lane_first)
 
-  head_is : (b : Bool) → head_of (arc_at fit.heads step.0) b ≡ head_of (first_of residual.net.arcs here.first) b
+  head_is : (b : Bool) → head_of (arc_at heads step.0) b ≡ head_of (first_of residual.net.arcs lane.first) b
   head_is true = is_head.from ∙ ap (λ i. (arc_at residual.net.arcs i).from) (sym lane_first)
   head_is false = is_head.to ∙ ap (λ i. (arc_at residual.net.arcs i).to) (sym lane_first)
 
-  pub lane_here : IsLaneOf residual v here
-  lane_here = record {
+  pub lane_near : v ≡ tail_of (first_of residual.net.arcs lane.first) lane.enters
+  lane_near = sym (out_tails heads v k (0, false) lk) ∙ tail_is step.1 ∙ ap (tail_of (first_of residual.net.arcs lane.first)) (sym lane_enters)
+
+  pub lane_here : IsKnown residual.flow lane → IsLaneOf residual v lane
+  lane_here known = record {
     head = subst (λ i. IsHead residual.net.arcs (first_of residual.net.arcs i)) (sym lane_first) (record { known = is_head.known; from = refl; to = refl; room = refl; cost = refl; starts = is_head.starts });
-    near = sym (out_tails fit.heads v k (0, false) lk) ∙ tail_is step.1 ∙ ap (tail_of (first_of residual.net.arcs here.first)) (sym lane_enters);
-    far = ap (λ (x : Lane). x.other) (fit.rows.each v k lv lk) ∙ head_is step.1 ∙ ap (head_of (first_of residual.net.arcs here.first)) (sym lane_enters);
-    cost = ap (λ (x : Lane). x.cost) (fit.rows.each v k lv lk) ∙ is_head.cost ∙ ap (λ i. (arc_at residual.net.arcs i).cost) (sym lane_first);
-    unused = fit.unused v k lv lk;
+    near = lane_near;
+    far = ap (λ (x : Lane). x.other) is ∙ head_is step.1 ∙ ap (head_of (first_of residual.net.arcs lane.first)) (sym lane_enters);
+    cost = ap (λ (x : Lane). x.cost) is ∙ is_head.cost ∙ ap (λ i. (arc_at residual.net.arcs i).cost) (sym lane_first);
+    known = known;
   }
 
   -- the lane of a direction whose first arc was marked is marked
-  pub lane_marked : IsMarkedAt starts lanes (arc_at residual.net.arcs here.first) here.first → here.used ≡ true
-  lane_marked all = by here.enters lane_here.near
+  pub lane_marked : (starts : List ℕ) (lanes : List Lane) → IsMade starts v → lane ≡ lane_at lanes (slice_index starts v + k) → IsMarkedOver heads starts lanes (arc_at residual.net.arcs lane.first) lane.first → lane.used ≡ true
+  lane_marked starts lanes made here all = by lane.enters lane_near
     where
-      inside : slice_index starts v + k < slice_index starts (v + 1)
-      inside = let s = fit.rows.spans v lv in omega (arith, s, lk)
+      at : (w : ℕ) → v ≡ w → IsMarkedAt heads starts lanes w lane.first → lane.used ≡ true
+      at w e marks = ap (λ (x : Lane). x.used) here ∙ subst (λ u. IsMarkedAt heads starts lanes u lane.first) (sym e) marks made (slice_index starts v + k) (omega arith) (omega (arith, lk)) (sym (ap (λ (x : Lane). x.first) here))
 
-      at : (w : ℕ) → v ≡ w → IsMarkedIn lanes (slice_index starts w) (slice_index starts (w + 1)) here.first → here.used ≡ true
-      at w e marks = subst (λ u. IsMarkedIn lanes (slice_index starts u) (slice_index starts (u + 1)) here.first) (sym e) marks (slice_index starts v + k) (omega arith) inside refl
-
-      by : (b : Bool) → v ≡ tail_of (first_of residual.net.arcs here.first) b → here.used ≡ true
+      by : (b : Bool) → v ≡ tail_of (first_of residual.net.arcs lane.first) b → lane.used ≡ true
       by true e = at _ e all.1
       by false e = at _ e all.0
-
--- a position between a node's start and the next is that of one of its lanes
-pub row_inside : (residual : ResidualNet) (starts : List ℕ) (lanes : List Lane) (fit : FitsLanes residual starts lanes) (v q start end : ℕ) → v < residual.net.nodes → start ≡ slice_index_or starts v start → end ≡ slice_index_or starts (v + 1) end → slice_index starts v ≤ q → q < end → (q - slice_index starts v < length (steps_out fit.heads v)) × (q < length lanes)
-row_inside residual starts lanes fit v q start end l s e ge less =
-    let long = fit.rows.long in
-    let next = e ∙ get_or_default_zero starts (v + 1) end (omega (arith, l, long)) in
-    let span = fit.rows.spans v l in
-    let most = fit.rows.most v l in
-    (omega (arith, next, span, ge, less), omega (arith, next, most, less))
 
 pub only_as : (arcs : List Arc) (flow : List ℕ) (h g : Arc) (back : Bool) (i : ℕ) → h.dir ≡ g.dir → IsOnlyNext arcs flow h back i → IsOnlyNext arcs flow g back i
 only_as arcs flow h g back i e o = record {
@@ -215,15 +241,19 @@ pub none_as : (arcs : List Arc) (flow : List ℕ) (h g : Arc) (back : Bool) → 
 none_as arcs flow h g back e none j l d n = none j l (d ∙ ap (λ m. (arc_at arcs m).dir) (sym e)) n
 
 -- lanes still fit after a push along a path whose lanes were marked
-pub lanes_pushed : (residual : ResidualNet) (starts : List ℕ) (lanes new : List Lane) (amount : ℕ) (path : List (ℕ × Bool)) → FitsLanes residual starts lanes → IsMarked lanes new → ((m : ℕ) → m < length path → IsMarkedAt starts new (arc_at residual.net.arcs (slice_index_or path m (0, false)).0) (slice_index_or path m (0, false)).0) → FitsLanes (record { net = residual.net; flow = flow_after residual.flow amount path }) starts new
-lanes_pushed residual starts lanes new amount path fit so all = record {
-  heads = fit.heads;
+pub lanes_pushed : (residual : ResidualNet) (heads : Net) (starts : List ℕ) (lanes new : List Lane) (amount : ℕ) (path : List (ℕ × Bool)) → FitsLanes residual heads starts lanes → IsMarked lanes new → IsPathMarked heads.arcs starts residual.net.arcs path (length path) new → FitsLanes (record { net = residual.net; flow = flow_after residual.flow amount path }) heads starts new
+lanes_pushed residual heads starts lanes new amount path fit so all = record {
   heads_are = fit.heads_are;
-  rows = held.rows;
-  unused = λ v k l m off.
-      flow_other residual.flow amount path (lane_at new (slice_index starts v + k)).first
-      (λ j lj at. both_ways (lane_at new (slice_index starts v + k)).used off (lane_marked residual starts new held v k l m (subst (λ i. IsMarkedAt starts new (arc_at residual.net.arcs i) i) at (all j lj))))
-      ∙ held.unused v k l m off;
+  nodes = fit.nodes;
+  held = rows_marked heads starts lanes new so fit.held;
+  rows = λ v l made. record {
+    each = each v l made;
+    known = λ k m off.
+        flow_other residual.flow amount path (lane_at new (slice_index starts v + k)).first
+        (λ j lj at. both_ways (lane_at new (slice_index starts v + k)).used off (lane_marked residual heads.arcs fit.heads_are v k m (lane_at new (slice_index starts v + k)) (each v l made k m) starts new made refl (subst (λ i. IsMarkedOver heads.arcs starts new (arc_at residual.net.arcs i) i) at (all j lj))))
+        ∙ ap (λ (x : Lane). slice_index residual.flow x.first) (so.same (slice_index starts v + k))
+        ∙ (fit.rows v l made).known k m (was (slice_index starts v + k) off);
+  };
 }
   where
     was : (q : ℕ) → (lane_at new q).used ≡ false → (lane_at lanes q).used ≡ false
@@ -232,19 +262,8 @@ lanes_pushed residual starts lanes new amount path fit so all = record {
         (λ (e : (lane_at lanes q).used ≡ false). e)
         (cases_Bool (lane_at lanes q).used)
 
-    held : FitsLanes residual starts new
-    held = record {
-      heads = fit.heads;
-      heads_are = fit.heads_are;
-      rows = record {
-        long = fit.rows.long;
-        last = fit.rows.last ∙ sym so.long;
-        spans = fit.rows.spans;
-        most = λ v l. let a = fit.rows.most v l in let b = so.long in omega (arith, a, b);
-        each = λ v k l m. so.same (slice_index starts v + k) ∙ fit.rows.each v k l m;
-      };
-      unused = λ v k l m off. ap (λ (x : Lane). slice_index residual.flow x.first) (so.same (slice_index starts v + k)) ∙ fit.unused v k l m (was (slice_index starts v + k) off);
-    }
+    each : (v : ℕ) → v < heads.nodes → IsMade starts v → (k : ℕ) → k < length (steps_out heads.arcs v) → unmarked (lane_at new (slice_index starts v + k)) ≡ lane_of heads.arcs (step_of heads.arcs v k)
+    each v l made k m = so.same (slice_index starts v + k) ∙ (fit.rows v l made).each k m
 
 -- the step forward over the first arc of a direction that carries nothing
 pub first_step_is : (residual : ResidualNet) (v : ℕ) (lane : Lane) → IsResidualNet residual → InOrder residual.net.arcs residual.flow → IsLaneOf residual v lane → lane.used ≡ false → IsStepOf residual (record { arc = lane.first; back = false; tail = cond lane.enters lane.other v; head = cond lane.enters v lane.other; cost = lane.cost }) × IsOnlyNext residual.net.arcs residual.flow (first_of residual.net.arcs lane.first) false lane.first
@@ -255,7 +274,7 @@ first_step_is residual v lane ok order is off = (head_step residual first (recor
 
     only : IsOnlyNext residual.net.arcs residual.flow (first_of residual.net.arcs lane.first) false lane.first
     only =
-        let none = is.unused off in
+        let none = is.known off in
         let room = all_rooms residual ok lane.first is.head.known in
         forward_is residual.net.arcs residual.flow (first_of residual.net.arcs lane.first) is.head ok.good.together order (all_rooms residual ok) lane.first is.head.known refl (omega (arith, none, room)) (λ j ge less. absurd (omega (arith, ge, less)))
 
@@ -268,4 +287,4 @@ first_step_is residual v lane ok order is off = (head_step residual first (recor
     by_head false near far = far
 
 pub unused_none : (residual : ResidualNet) (v : ℕ) (lane : Lane) → IsResidualNet residual → InOrder residual.net.arcs residual.flow → IsLaneOf residual v lane → lane.used ≡ false → HasNoNext residual.net.arcs residual.flow (first_of residual.net.arcs lane.first) true
-unused_none residual v lane ok order is off j lj ej next = backward_none residual.net.arcs residual.flow (first_of residual.net.arcs lane.first) is.head ok.good.together order (all_rooms residual ok) j (is.unused off) lj ej next
+unused_none residual v lane ok order is off j lj ej next = backward_none residual.net.arcs residual.flow (first_of residual.net.arcs lane.first) is.head ok.good.together order (all_rooms residual ok) j (is.known off) lj ej next

@@ -1,9 +1,10 @@
 -- The directions at each node, side by side; these words serve private clauses only.
 use Rattle.std.specs.Prelude.{ℕ, ◌+◌, ◌<◌, ◌≤◌, ◌≡◌, List, length, Bool, true, false, slice_index, slice_index_or}
 use Rattle.flow_model.specs.declared.instance.Arc.{Arc}
-use Rattle.flow_model.specs.Instance.{arc_at}
+use Rattle.flow_model.specs.Instance.{Net, arc_at}
 use Rattle.residual_net.specs.Residual.{ResidualNet, steps_out}
 use Rattle.flow_solver.specs.declared.lanes.Lane.{Lane}
+use Rattle.flow_solver.specs.declared.lanes.TheConstants.{UNMADE}
 use Rattle.flow_solver.specs.Heads.{HasHeads, IsHead}
 use Rattle.flow_solver.specs.Search.{head_of, tail_of}
 
@@ -17,7 +18,7 @@ lane_at lanes q = slice_index_or lanes q no_lane
 abbrev pub first_of : List Arc → ℕ → Arc
 first_of arcs i = record { from = (arc_at arcs i).from; to = (arc_at arcs i).to; room = (arc_at arcs i).room; cost = (arc_at arcs i).cost; dir = i }
 
--- the lane of a step over a head, as long as its direction carries nothing
+-- the unmarked lane of a step over a head
 abbrev pub lane_of : List Arc → ℕ × Bool → Lane
 lane_of heads s = record { first = (arc_at heads s.0).dir; other = head_of (arc_at heads s.0) s.1; cost = (arc_at heads s.0).cost; enters = s.1; used = false }
 
@@ -28,26 +29,44 @@ unmarked lane = record { first = lane.first; other = lane.other; cost = lane.cos
 abbrev pub step_of : List Arc → ℕ → ℕ → ℕ × Bool
 step_of heads v k = slice_index_or (steps_out heads v) k (0, false)
 
+-- an unmarked lane's direction carries nothing
+abbrev pub IsKnown : List ℕ → Lane → Type 0
+IsKnown flow lane = lane.used ≡ false → slice_index flow lane.first ≡ 0
+
+-- the lanes of the first j steps out of a node, from this position on
+pub record IsRowAt (flow : List ℕ) (heads : List Arc) (v start j : ℕ) (lanes : List Lane) : Type 0 where
+  pub each : (k : ℕ) → k < j → unmarked (lane_at lanes (start + k)) ≡ lane_of heads (step_of heads v k)
+  pub known : (k : ℕ) → k < j → IsKnown flow (lane_at lanes (start + k))
+
 -- after the old lanes stand those of the first j steps out of the node
-pub record IsRowTo (heads : List Arc) (v j : ℕ) (old new : List Lane) : Type 0 where
+pub record IsRowTo (flow : List ℕ) (heads : List Arc) (v j : ℕ) (old new : List Lane) : Type 0 where
   pub long : length new ≡ length old + j
   pub kept : (q : ℕ) → q < length old → lane_at new q ≡ lane_at old q
-  pub added : (k : ℕ) → k < j → lane_at new (length old + k) ≡ lane_of heads (step_of heads v k)
+  pub row : IsRowAt flow heads v (length old) j new
 
--- for each of the first n nodes a lane for each step out of it, in the order of the steps
-pub record HasLanes (heads : List Arc) (n : ℕ) (starts : List ℕ) (lanes : List Lane) : Type 0 where
-  pub long : length starts ≡ n + 1
-  pub last : slice_index starts n ≡ length lanes
-  pub spans : (v : ℕ) → v < n → slice_index starts (v + 1) ≡ slice_index starts v + length (steps_out heads v)
-  pub most : (v : ℕ) → v < n → slice_index starts (v + 1) ≤ length lanes
-  pub each : (v k : ℕ) → v < n → k < length (steps_out heads v) → unmarked (lane_at lanes (slice_index starts v + k)) ≡ lane_of heads (step_of heads v k)
+-- the lanes of the node are made
+abbrev pub IsMade : List ℕ → ℕ → Type 0
+IsMade starts v = slice_index starts v < UNMADE
 
--- the lanes of a network's directions; one that isn't marked as used carries nothing
-pub record FitsLanes (residual : ResidualNet) (starts : List ℕ) (lanes : List Lane) : Type 0 where
+-- each node has its start, and the lanes that are made are within the list
+pub record HasMadeRows (heads : Net) (starts : List ℕ) (lanes : List Lane) : Type 0 where
+  pub long : length starts ≡ heads.nodes
+  pub most : (v : ℕ) → v < heads.nodes → IsMade starts v → slice_index starts v + length (steps_out heads.arcs v) ≤ length lanes
+
+-- the lanes of a network's directions, as far as they are made
+pub record FitsLanes (residual : ResidualNet) (heads : Net) (starts : List ℕ) (lanes : List Lane) : Type 0 where
+  pub heads_are : HasHeads residual.net.arcs heads.arcs (length residual.net.arcs)
+  pub nodes : heads.nodes ≡ residual.net.nodes
+  pub held : HasMadeRows heads starts lanes
+  pub rows : (v : ℕ) → v < heads.nodes → IsMade starts v → IsRowAt residual.flow heads.arcs v (slice_index starts v) (length (steps_out heads.arcs v)) lanes
+
+-- the lanes at a node of a network's directions
+pub record IsRow (residual : ResidualNet) (v : ℕ) (row : List Lane) : Type 0 where
   pub heads : List Arc
   pub heads_are : HasHeads residual.net.arcs heads (length residual.net.arcs)
-  pub rows : HasLanes heads residual.net.nodes starts lanes
-  pub unused : (v k : ℕ) → v < residual.net.nodes → k < length (steps_out heads v) → (lane_at lanes (slice_index starts v + k)).used ≡ false → slice_index residual.flow (lane_at lanes (slice_index starts v + k)).first ≡ 0
+  pub long : length row ≡ length (steps_out heads v)
+  pub each : (k : ℕ) → k < length row → unmarked (lane_at row k) ≡ lane_of heads (step_of heads v k)
+  pub known : (k : ℕ) → k < length row → IsKnown residual.flow (lane_at row k)
 
 -- the lane of a direction at a node
 pub record IsLaneOf (residual : ResidualNet) (v : ℕ) (lane : Lane) : Type 0 where
@@ -55,7 +74,7 @@ pub record IsLaneOf (residual : ResidualNet) (v : ℕ) (lane : Lane) : Type 0 wh
   pub near : v ≡ tail_of (first_of residual.net.arcs lane.first) lane.enters
   pub far : lane.other ≡ head_of (first_of residual.net.arcs lane.first) lane.enters
   pub cost : lane.cost ≡ (arc_at residual.net.arcs lane.first).cost
-  pub unused : lane.used ≡ false → slice_index residual.flow lane.first ≡ 0
+  pub known : IsKnown residual.flow lane
 
 -- some lanes are marked
 pub record IsMarked (lanes new : List Lane) : Type 0 where
@@ -67,6 +86,10 @@ pub record IsMarked (lanes new : List Lane) : Type 0 where
 abbrev pub IsMarkedIn : List Lane → ℕ → ℕ → ℕ → Type 0
 IsMarkedIn lanes start end first = (q : ℕ) → start ≤ q → q < end → (lane_at lanes q).first ≡ first → (lane_at lanes q).used ≡ true
 
--- the lanes at both ends of an arc whose direction it begins are marked
-abbrev pub IsMarkedAt : List ℕ → List Lane → Arc → ℕ → Type 0
-IsMarkedAt starts lanes arc first = IsMarkedIn lanes (slice_index starts arc.from) (slice_index starts (arc.from + 1)) first × IsMarkedIn lanes (slice_index starts arc.to) (slice_index starts (arc.to + 1)) first
+-- the lane at a node of a direction with this first arc is marked, if it is made
+abbrev pub IsMarkedAt : List Arc → List ℕ → List Lane → ℕ → ℕ → Type 0
+IsMarkedAt heads starts lanes v first = IsMade starts v → IsMarkedIn lanes (slice_index starts v) (slice_index starts v + length (steps_out heads v)) first
+
+-- the lanes at both ends of an arc whose direction it begins are marked, if they are made
+abbrev pub IsMarkedOver : List Arc → List ℕ → List Lane → Arc → ℕ → Type 0
+IsMarkedOver heads starts lanes arc first = IsMarkedAt heads starts lanes arc.from first × IsMarkedAt heads starts lanes arc.to first

@@ -27,6 +27,6 @@ size_of side = sum_of_labels side.labels.items + length (heap_items side.heap)
 
 -- the lanes of a network's directions, and two searches over its nodes
 pub record FitsSearch (residual : ResidualNet) (lanes : Lanes) (source destination : Side) : Type 0 where
-  pub lanes_fit : FitsLanes residual lanes.starts.items lanes.lanes.items
+  pub lanes_fit : FitsLanes residual lanes.heads.net lanes.starts.items lanes.lanes.items
   pub source_long : length source.parents.items ≡ residual.net.nodes
   pub destination_long : length destination.parents.items ≡ residual.net.nodes

@@ -6,6 +6,7 @@ ghost use Rattle.flow_solver.specs.Meeting.{IsCarriedOn};
 
 use crate::advance::{least_room, walk};
 use crate::flow_net::FlowNet;
+use crate::heads::heads_of;
 use crate::labels::{UNREACHED, reached_nodes};
 use crate::lanes::{Lanes, mark, open_lanes};
 use crate::lift::{carry, lift};
@@ -29,9 +30,9 @@ pub struct Keeping;
 fn push_on(residual: &mut FlowNet, lanes: &mut Lanes, path: &[(u32, bool)], amount: u64)
     requires room { All (HasRoomFor residual.old.net.arcs residual.old.flow amount) path.now }
     requires distinct { HasDistinctArcs path.now }
-    requires lanes { FitsLanes residual.old lanes.old.starts.items lanes.old.lanes.items }
+    requires lanes { FitsLanes residual.old lanes.old.heads.net lanes.old.starts.items lanes.old.lanes.items }
     ensures value { residual.new ≡ record { net = residual.old.net; flow = flow_after residual.old.flow amount path.now } }
-    ensures lanes { FitsLanes residual.new lanes.new.starts.items lanes.new.lanes.items }
+    ensures lanes { FitsLanes residual.new lanes.new.heads.net lanes.new.starts.items lanes.new.lanes.items }
 {
     residual.push_path(path, amount);
     mark(lanes, residual.arcs(), path);
@@ -53,13 +54,13 @@ fn push_found(
     requires net { residual.old.net ≡ instance.now }
     requires less { sent < instance.now.demand }
     requires partial { IsPartialSolution residual.old potentials.old sent }
-    requires lanes { FitsLanes residual.old lanes.old.starts.items lanes.old.lanes.items }
+    requires lanes { FitsLanes residual.old lanes.old.heads.net lanes.old.starts.items lanes.old.lanes.items }
     requires carried { IsCarriedOn residual.old potentials.old source.now.labels.items source.now.parents.items destination.now.labels.items found.radius found.best }
     ensures more { IfOk result (λ n. sent < n) }
     ensures most { IfOk result (λ n. n ≤ instance.now.demand) }
     ensures partial { IfOk result (λ n. IsPartialSolution residual.new potentials.new n) }
     ensures net { IfOk result (λ n. residual.new.net ≡ residual.old.net) }
-    ensures lanes { IfOk result (λ n. FitsLanes residual.new lanes.new.starts.items lanes.new.lanes.items) }
+    ensures lanes { IfOk result (λ n. FitsLanes residual.new lanes.new.heads.net lanes.new.starts.items lanes.new.lanes.items) }
 {
     let path = walk(
         alloc,
@@ -83,13 +84,13 @@ fn push_found(
 /// A search from both ends over an instance: the instance's directions, by node, and the two searches, which keep their
 /// memory from one augmentation to the next.
 #[derive(Drop)]
-struct KeepingSearch {
-    lanes: Lanes,
+struct KeepingSearch<'a> {
+    lanes: Lanes<'a>,
     source: Side,
     destination: Side,
 }
 
-impl Augment for KeepingSearch {
+impl<'a> Augment for KeepingSearch<'a> {
     ghost use Rattle.flow_solver.specs.TwoSided.{FitsSearch};
 
     ghost fits = { λ s residual. FitsSearch residual s.lanes s.source s.destination };
@@ -108,7 +109,7 @@ impl Augment for KeepingSearch {
         begin(&mut self.destination, nodes, end)?;
         let found = meet(
             residual,
-            &self.lanes,
+            &mut self.lanes,
             potentials,
             &mut self.source,
             &mut self.destination,
@@ -143,8 +144,9 @@ impl Augment for KeepingSearch {
 
 impl Solve for Keeping {
     fn solve(&self, alloc: Global, instance: &Instance) -> Result<Solved, NoMemory> {
+        let firsts = heads_of(alloc, instance)?;
         let mut search = KeepingSearch {
-            lanes: open_lanes(alloc, instance)?,
+            lanes: open_lanes(alloc, instance, &firsts)?,
             source: no_side(alloc, instance.nodes())?,
             destination: no_side(alloc, instance.nodes())?,
         };

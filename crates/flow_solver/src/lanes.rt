@@ -1,19 +1,22 @@
-ghost use Rattle.std.specs.Prelude.{◌≡◌, ◌<◌, ◌≤◌, ◌+◌, ℕ, cond, true, false, IfNone, IfOk, IfSome, OnOk, length, replicate, slice_index, slice_index_or};
+ghost use Rattle.std.specs.Prelude.{◌≡◌, ◌<◌, ◌≤◌, ◌+◌, ℕ, cond, true, false, drop, take, IfNone, IfOk, IfSome, OnOk, length, replicate, slice_index, slice_index_or};
 ghost use Rattle.flow_model.specs.Instance.{arc_at};
 ghost use Rattle.residual_net.specs.Residual.{steps_out};
-ghost use Rattle.flow_solver.specs.Heads.{HasNoNext, IsOnlyNext};
+ghost use Rattle.flow_solver.specs.Heads.{HasHeads, HasNoNext, IsOnlyNext};
 ghost use Rattle.flow_solver.specs.Lanes as words;
-ghost use Rattle.flow_solver.specs.Lanes.{FitsLanes, HasLanes, IsLaneOf, IsMarked, IsMarkedAt, IsMarkedIn, IsRowTo, first_of};
+ghost use Rattle.flow_solver.specs.Lanes.{FitsLanes, HasMadeRows, IsKnown, IsLaneOf, IsMade, IsMarked, IsMarkedAt, IsMarkedIn, IsMarkedOver, IsRowTo, first_of};
 ghost use Rattle.flow_solver.specs.Meeting.{IsStepOf};
 ghost use Rattle.flow_solver.specs.Search.{InOrder, head_of as head_node};
 
 use crate::flow_net::FlowNet;
-use crate::heads::{head_at, heads_of, next_of};
+use crate::heads::{head_at, next_of};
 use crate::steps::{NextStep, head_of};
 use flow_model::{Arc, Instance};
 use plan_base::NoMemory;
 use residual_net::Residual;
 use std::alloc::Global;
+
+/// The start of a node whose lanes are not made.
+pub(crate) const UNMADE: usize = usize::MAX;
 
 /// A direction at one of its two nodes: its first arc and that arc's cost, the other node, and whether the direction
 /// enters the node. As long as it isn't used, it carries nothing.
@@ -26,61 +29,93 @@ pub(crate) struct Lane {
     pub(crate) used: bool,
 }
 
-/// The lanes at all nodes, those of a node together: node `v`'s from the `v`-th start to the next.
+/// The lanes at the nodes that a search has reached, those of a node together: node `v`'s from the `v`-th start on, one
+/// for each step out of it over the network of first arcs. A payment pays only for the nodes near its path.
 #[derive(Debug, Drop)]
-pub(crate) struct Lanes {
+pub(crate) struct Lanes<'a> {
+    pub(crate) heads: Residual<'a>,
     pub(crate) starts: Vec<usize>,
     pub(crate) lanes: Vec<Lane>,
 }
 
-/// The lane of a step over a head.
-fn lane_of(head: Arc, enters: bool) -> Lane
-    ensures { result ≡ record { first = head.dir; other = head_node head enters; cost = head.cost; enters = enters; used = false } }
+/// The lanes of an instance with these first arcs, none of which is made.
+pub(crate) fn open_lanes<'a>(
+    alloc: Global,
+    instance: &Instance,
+    firsts: &'a Instance,
+) -> Result<Lanes<'a>, NoMemory>
+    requires heads { HasHeads instance.now.arcs firsts.now.arcs (length instance.now.arcs) }
+    requires nodes { firsts.now.nodes ≡ instance.now.nodes }
+    ensures { IfOk result (λ l. FitsLanes (record { net = instance.now; flow = replicate (length instance.now.arcs) 0 }) l.heads.net l.starts.items l.lanes.items) }
+{
+    Ok(Lanes {
+        heads: Residual::open(alloc, firsts)?,
+        starts: Vec::from_elem(alloc, UNMADE, instance.nodes() as usize)?,
+        lanes: Vec::new(alloc),
+    })
+}
+
+/// The lane of a step over a head whose first arc carries these units.
+fn lane_of(head: Arc, enters: bool, units: u64) -> Lane
+    ensures same { words.unmarked result ≡ record { first = head.dir; other = head_node head enters; cost = head.cost; enters = enters; used = false } }
+    ensures known { result.used ≡ false → units ≡ 0 }
 {
     Lane {
         first: head.dir,
         other: head_of(head, enters),
         cost: head.cost,
         enters,
-        used: false,
+        used: units > 0,
     }
 }
 
 /// Appends the lanes at a node.
-fn push_row(lanes: &mut Vec<Lane>, heads: &Residual, node: u32) -> Result<(), NoMemory>
+fn push_row(
+    lanes: &mut Vec<Lane>,
+    heads: &Residual,
+    flow: &[u64],
+    node: u32,
+) -> Result<(), NoMemory>
     requires node { node < heads.now.net.nodes }
-    ensures { OnOk result (IsRowTo heads.now.net.arcs node (length (steps_out heads.now.net.arcs node)) lanes.old.items lanes.new.items) }
+    requires known { (g : ℕ) → g < length heads.now.net.arcs → (arc_at heads.now.net.arcs g).dir < length flow.now }
+    ensures { OnOk result (IsRowTo flow.now heads.now.net.arcs node (length (steps_out heads.now.net.arcs node)) lanes.old.items lanes.new.items) }
 {
     let firsts = heads.arcs();
     let out = heads.out(node);
     for step in out {
-        lanes.push(lane_of(firsts[step.0 as usize], step.1))?;
+        let head = firsts[step.0 as usize];
+        lanes.push(lane_of(head, step.1, flow[head.dir as usize]))?;
     }
     Ok(())
 }
 
-/// The lanes at all nodes of a network of heads.
-fn lanes_of(alloc: Global, heads: &Residual, nodes: u32) -> Result<Lanes, NoMemory>
-    requires nodes { nodes ≡ heads.now.net.nodes }
-    ensures { IfOk result (λ l. HasLanes heads.now.net.arcs nodes l.starts.items l.lanes.items) }
+/// Makes the lanes at a node, if they are not made.
+pub(crate) fn make_row(lanes: &mut Lanes, residual: &FlowNet, node: u32) -> Result<(), NoMemory>
+    requires node { node < residual.now.net.nodes }
+    requires lanes { FitsLanes residual.now lanes.old.heads.net lanes.old.starts.items lanes.old.lanes.items }
+    ensures lanes { OnOk result (FitsLanes residual.now lanes.new.heads.net lanes.new.starts.items lanes.new.lanes.items) }
+    ensures made { OnOk result (IsMade lanes.new.starts.items node) }
 {
-    let mut starts = Vec::with_capacity(alloc, nodes as usize + 1)?;
-    let mut lanes = Vec::new(alloc);
-    starts.push(0)?;
-    for node in 0..nodes {
-        push_row(&mut lanes, heads, node)?;
-        starts.push(lanes.len())?;
+    let _arcs = residual.arcs();
+    if lanes.starts[node as usize] < UNMADE {
+        return Ok(());
     }
-    Ok(Lanes { starts, lanes })
+    let start = lanes.lanes.len();
+    push_row(&mut lanes.lanes, &lanes.heads, residual.flow(), node)?;
+    lanes.starts[node as usize] = start;
+    Ok(())
 }
 
-/// The lanes of an instance whose arcs carry nothing.
-pub(crate) fn open_lanes(alloc: Global, instance: &Instance) -> Result<Lanes, NoMemory>
-    ensures { IfOk result (λ l. FitsLanes (record { net = instance.now; flow = replicate (length instance.now.arcs) 0 }) l.starts.items l.lanes.items) }
+/// The lanes at a node.
+pub(crate) fn row_of<'l>(lanes: &'l Lanes, node: u32) -> &'l [Lane]
+    requires node { node < lanes.now.heads.net.nodes }
+    requires made { IsMade lanes.now.starts.items node }
+    requires held { HasMadeRows lanes.now.heads.net lanes.now.starts.items lanes.now.lanes.items }
+    ensures { result.now ≡ take (length (steps_out lanes.now.heads.net.arcs node)) (drop (slice_index lanes.now.starts.items node) lanes.now.lanes.items) }
 {
-    let firsts = heads_of(alloc, instance)?;
-    let heads = Residual::open(alloc, &firsts)?;
-    Ok(lanes_of(alloc, &heads, instance.nodes())?)
+    let start = lanes.starts[node as usize];
+    let end = start + lanes.heads.out(node).len();
+    &lanes.lanes[start..end]
 }
 
 /// A lane, marked if its direction has this first arc.
@@ -95,8 +130,8 @@ fn marked_if(lane: Lane, first: u32) -> Lane
     }
 }
 
-/// Marks the lane at a node of the direction with this first arc, if there is one.
-fn mark_at(lanes: &mut [Lane], start: usize, end: usize, first: u32)
+/// Marks the lane of the direction with this first arc, if it is between these positions.
+fn mark_in(lanes: &mut [Lane], start: usize, end: usize, first: u32)
     requires end { end ≤ length lanes.old }
     ensures marked { IsMarked lanes.old lanes.new }
     ensures all { IsMarkedIn lanes.new start end first }
@@ -106,34 +141,49 @@ fn mark_at(lanes: &mut [Lane], start: usize, end: usize, first: u32)
     }
 }
 
-/// Marks the lanes at both ends of an arc, if its direction begins with it.
-fn mark_step(lanes: &mut Lanes, arc: Arc, first: u32)
-    requires from { arc.from + 1 < length lanes.old.starts.items }
-    requires to { arc.to + 1 < length lanes.old.starts.items }
-    requires most { (v : ℕ) → v + 1 < length lanes.old.starts.items → slice_index lanes.old.starts.items (v + 1) ≤ length lanes.old.lanes.items }
+/// Marks the lane at a node of the direction with this first arc, if it is made.
+fn mark_at(lanes: &mut Lanes, node: u32, first: u32)
+    requires node { node < lanes.old.heads.net.nodes }
+    requires held { HasMadeRows lanes.old.heads.net lanes.old.starts.items lanes.old.lanes.items }
+    ensures heads { lanes.new.heads ≡ lanes.old.heads }
     ensures starts { lanes.new.starts.items ≡ lanes.old.starts.items }
     ensures marked { IsMarked lanes.old.lanes.items lanes.new.lanes.items }
-    ensures all { IsMarkedAt lanes.new.starts.items lanes.new.lanes.items arc first }
+    ensures all { IsMarkedAt lanes.old.heads.net.arcs lanes.old.starts.items lanes.new.lanes.items node first }
 {
-    let (from, to) = (arc.from as usize, arc.to as usize);
-    let (start, end) = (lanes.starts[from], lanes.starts[from + 1]);
-    mark_at(&mut lanes.lanes, start, end, first);
-    let (start, end) = (lanes.starts[to], lanes.starts[to + 1]);
-    mark_at(&mut lanes.lanes, start, end, first);
+    let start = lanes.starts[node as usize];
+    if start < UNMADE {
+        let end = start + lanes.heads.out(node).len();
+        mark_in(&mut lanes.lanes, start, end, first);
+    }
+}
+
+/// Marks the lanes at both ends of an arc, if its direction begins with it.
+fn mark_over(lanes: &mut Lanes, arc: Arc, first: u32)
+    requires from { arc.from < lanes.old.heads.net.nodes }
+    requires to { arc.to < lanes.old.heads.net.nodes }
+    requires held { HasMadeRows lanes.old.heads.net lanes.old.starts.items lanes.old.lanes.items }
+    ensures heads { lanes.new.heads ≡ lanes.old.heads }
+    ensures starts { lanes.new.starts.items ≡ lanes.old.starts.items }
+    ensures marked { IsMarked lanes.old.lanes.items lanes.new.lanes.items }
+    ensures all { IsMarkedOver lanes.old.heads.net.arcs lanes.old.starts.items lanes.new.lanes.items arc first }
+{
+    mark_at(lanes, arc.from, first);
+    mark_at(lanes, arc.to, first);
 }
 
 /// Marks the lanes of the directions that begin with an arc of a path.
 pub(crate) fn mark(lanes: &mut Lanes, arcs: &[Arc], path: &[(u32, bool)])
     requires path { (m : ℕ) → m < length path.now → (slice_index_or path.now m (0, false)).0 < length arcs.now }
-    requires from { (i : ℕ) → i < length arcs.now → (arc_at arcs.now i).from + 1 < length lanes.old.starts.items }
-    requires to { (i : ℕ) → i < length arcs.now → (arc_at arcs.now i).to + 1 < length lanes.old.starts.items }
-    requires most { (v : ℕ) → v + 1 < length lanes.old.starts.items → slice_index lanes.old.starts.items (v + 1) ≤ length lanes.old.lanes.items }
+    requires from { (i : ℕ) → i < length arcs.now → (arc_at arcs.now i).from < lanes.old.heads.net.nodes }
+    requires to { (i : ℕ) → i < length arcs.now → (arc_at arcs.now i).to < lanes.old.heads.net.nodes }
+    requires held { HasMadeRows lanes.old.heads.net lanes.old.starts.items lanes.old.lanes.items }
+    ensures heads { lanes.new.heads ≡ lanes.old.heads }
     ensures starts { lanes.new.starts.items ≡ lanes.old.starts.items }
     ensures marked { IsMarked lanes.old.lanes.items lanes.new.lanes.items }
-    ensures all { (m : ℕ) → m < length path.now → IsMarkedAt lanes.new.starts.items lanes.new.lanes.items (arc_at arcs.now (slice_index_or path.now m (0, false)).0) (slice_index_or path.now m (0, false)).0 }
+    ensures all { (m : ℕ) → m < length path.now → IsMarkedOver lanes.old.heads.net.arcs lanes.old.starts.items lanes.new.lanes.items (arc_at arcs.now (slice_index_or path.now m (0, false)).0) (slice_index_or path.now m (0, false)).0 }
 {
     for step in path {
-        mark_step(lanes, arcs[step.0 as usize], step.0);
+        mark_over(lanes, arcs[step.0 as usize], step.0);
     }
 }
 

@@ -54,18 +54,19 @@ fn radius_of(source: &Side, destination: &Side, best: u128) -> Option<u128>
 /// Lets the search that has tried fewer steps try those of one more node.
 fn expand_one(
     residual: &FlowNet,
-    lanes: &Lanes,
+    lanes: &mut Lanes,
     potentials: &[i128],
     source: &mut Side,
     destination: &mut Side,
     meeting: Meeting,
 ) -> Result<Meeting, NoMemory>
     requires order { InOrder residual.now.net.arcs residual.now.flow }
-    requires lanes { FitsLanes residual.now lanes.now.starts.items lanes.now.lanes.items }
+    requires lanes { FitsLanes residual.now lanes.old.heads.net lanes.old.starts.items lanes.old.lanes.items }
     requires bounded { HasBoundedPotentials residual.now.net potentials.now }
     requires shown { IsFlowShown residual.now potentials.now }
     requires two { IsTwoSided residual.now potentials.now source.old destination.old meeting.best meeting.node }
     requires more { 0 < length (heap_items source.old.heap) }
+    ensures lanes { OnOk result (FitsLanes residual.now lanes.new.heads.net lanes.new.starts.items lanes.new.lanes.items) }
     ensures two { IfOk result (λ m. IsTwoSided residual.now potentials.now source.new destination.new m.best m.node) }
     ensures less { OnOk result (size_of source.new + size_of destination.new < size_of source.old + size_of destination.old) }
 {
@@ -105,17 +106,18 @@ fn expand_one(
 /// Searches from both ends for the shortest path between them.
 pub(crate) fn meet(
     residual: &FlowNet,
-    lanes: &Lanes,
+    lanes: &mut Lanes,
     potentials: &[i128],
     source: &mut Side,
     destination: &mut Side,
 ) -> Result<Found, NoMemory>
     requires residual { IsResidualNet residual.now }
     requires order { InOrder residual.now.net.arcs residual.now.flow }
-    requires lanes { FitsLanes residual.now lanes.now.starts.items lanes.now.lanes.items }
+    requires lanes { FitsLanes residual.now lanes.old.heads.net lanes.old.starts.items lanes.old.lanes.items }
     requires bounded { HasBoundedPotentials residual.now.net potentials.now }
     requires shown { IsFlowShown residual.now potentials.now }
     requires two { IsTwoSided residual.now potentials.now source.old destination.old UNREACHED 0 }
+    ensures lanes { OnOk result (FitsLanes residual.now lanes.new.heads.net lanes.new.starts.items lanes.new.lanes.items) }
     ensures two { IfOk result (λ f. IsTwoSided residual.now potentials.now source.new destination.new f.best f.node) }
     ensures met { IfOk result (λ f. IsMet residual.now potentials.now source.new.labels.items destination.new.labels.items f.radius (f.best - f.radius) f.best) }
     ensures radius { IfOk result (λ f. f.radius ≤ f.best) }

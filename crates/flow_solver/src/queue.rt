@@ -6,13 +6,13 @@ ghost use Rattle.flow_model.specs.Instance.{arc_at};
 ghost use Rattle.flow_model.specs.Potentials.{IsSmall};
 ghost use Rattle.flow_solver.specs.Search as words;
 ghost use Rattle.flow_solver.specs.Search.{HasBoundedPotentials, IsFlowShown, InOrder, IsRelaxedTo, IsSearchTree, sum_of_labels};
-ghost use Rattle.flow_solver.specs.Lanes.{FitsLanes};
+ghost use Rattle.flow_solver.specs.Lanes.{FitsLanes, IsRow};
 ghost use Rattle.flow_solver.specs.Queue.{IsQueue, IsQueueProgress, IsRelaxedFrom};
 ghost use Rattle.flow_solver.specs.Turned.{seen, seen_potentials};
 ghost use Rattle.flow_solver.specs.Meeting.{IsMeeting, IsStepOf, reduced_cost};
 
 use crate::flow_net::FlowNet;
-use crate::lanes::{Lanes, next_over};
+use crate::lanes::{Lane, Lanes, make_row, next_over, row_of};
 use crate::side::{Side, key_of, lower_end, node_of};
 use crate::steps::{NextStep, flipped};
 use plan_base::NoMemory;
@@ -146,7 +146,7 @@ fn queue_step(
 /// Lowers the labels of the far ends of all steps out of a node, or of all steps into it if the search is turned around.
 fn open_node(
     residual: &FlowNet,
-    lanes: &Lanes,
+    row: &[Lane],
     potentials: &[i128],
     side: &mut Side,
     other: &Side,
@@ -154,9 +154,8 @@ fn open_node(
     turned: bool,
     meeting: Meeting,
 ) -> Result<Meeting, NoMemory>
-    requires node { node < residual.now.net.nodes }
+    requires row { IsRow residual.now node row.now }
     requires order { InOrder residual.now.net.arcs residual.now.flow }
-    requires lanes { FitsLanes residual.now lanes.now.starts.items lanes.now.lanes.items }
     requires bounded { HasBoundedPotentials residual.now.net potentials.now }
     requires shown { IsFlowShown residual.now potentials.now }
     requires tree { IsSearchTree (seen turned residual.now) (seen_potentials turned potentials.now) side.old.labels.items side.old.parents.items }
@@ -171,29 +170,18 @@ fn open_node(
 {
     let _arcs = residual.arcs();
     let mut found = meeting;
-    let start = lanes.starts[node as usize];
-    let end = lanes.starts[node as usize + 1];
-    for q in start..end {
-        let lane = lanes.lanes[q];
-        if let Some(next) = next_over(residual, lane, node, flipped(lane.enters, turned)) {
+    for lane in row {
+        if let Some(next) = next_over(residual, *lane, node, flipped(lane.enters, turned)) {
             found = queue_step(residual, potentials, side, other, next, turned, found)?;
         }
     }
     Ok(found)
 }
 
-/// The number of lanes at a node.
-fn count_at(lanes: &Lanes, node: u32) -> u64
-    requires node { node + 1 < length lanes.now.starts.items }
-    ensures { result ≡ slice_index lanes.now.starts.items (node + 1) - slice_index lanes.now.starts.items node }
-{
-    lanes.starts[node as usize + 1].saturating_sub(lanes.starts[node as usize]) as u64
-}
-
 /// Takes the first node of a queue, and lowers labels by its steps.
 pub(crate) fn expand(
     residual: &FlowNet,
-    lanes: &Lanes,
+    lanes: &mut Lanes,
     potentials: &[i128],
     side: &mut Side,
     other: &Side,
@@ -201,7 +189,7 @@ pub(crate) fn expand(
     meeting: Meeting,
 ) -> Result<Meeting, NoMemory>
     requires order { InOrder residual.now.net.arcs residual.now.flow }
-    requires lanes { FitsLanes residual.now lanes.now.starts.items lanes.now.lanes.items }
+    requires lanes { FitsLanes residual.now lanes.old.heads.net lanes.old.starts.items lanes.old.lanes.items }
     requires bounded { HasBoundedPotentials residual.now.net potentials.now }
     requires shown { IsFlowShown residual.now potentials.now }
     requires tree { IsSearchTree (seen turned residual.now) (seen_potentials turned potentials.now) side.old.labels.items side.old.parents.items }
@@ -210,6 +198,7 @@ pub(crate) fn expand(
     requires other { length other.now.labels.items ≡ residual.now.net.nodes }
     requires other_most { (v : ℕ) → slice_index other.now.labels.items v ≤ UNREACHED }
     requires meeting { IsMeeting residual.now.net.nodes side.old.labels.items other.now.labels.items meeting.best meeting.node }
+    ensures lanes { OnOk result (FitsLanes residual.now lanes.new.heads.net lanes.new.starts.items lanes.new.lanes.items) }
     ensures tree { OnOk result (IsSearchTree (seen turned residual.now) (seen_potentials turned potentials.now) side.new.labels.items side.new.parents.items) }
     ensures heap { OnOk result (IsHeap nat_cmp (heap_items side.new.heap)) }
     ensures queue { IfOk result (λ m. IsQueue (seen turned residual.now) (seen_potentials turned potentials.now) side.new.labels.items m.best (heap_items side.new.heap)) }
@@ -224,9 +213,11 @@ pub(crate) fn expand(
     let Some(node) = node_of(&side.labels, key) else {
         return Ok(meeting);
     };
-    side.work = side.work.saturating_add(count_at(lanes, node));
+    make_row(lanes, residual, node)?;
+    let row = row_of(lanes, node);
+    side.work = side.work.saturating_add(row.len() as u64);
     let found = open_node(
-        residual, lanes, potentials, side, other, node, turned, meeting,
+        residual, row, potentials, side, other, node, turned, meeting,
     )?;
     Ok(found)
 }

@@ -1,8 +1,13 @@
-use Rattle.std.proofs.Common.{ℕ, ◌<◌, ◌≡◌, false}
-use Rattle.std.specs.Prelude.{slice_index_or}
-use Rattle.flow_model.specs.Instance.{arc_at}
-use Rattle.flow_solver.specs.Lanes.{IsMarked, IsMarkedAt}
+use Rattle.std.proofs.Common.{◌≡◌}
+use Rattle.flow_solver.specs.Lanes.{HasMadeRows, IsMarked}
+use Rattle.flow_solver.proofs.Fitting.{IsPathMarked}
 use Rattle.flow_solver.proofs.lanes.mark.Given as goal
 
 abbrev pub invariant-loop-step : goal.invariant-loop-step
-invariant-loop-step l = (l.lanes.starts.items ≡ l.initial.lanes.starts.items) × IsMarked l.initial.lanes.lanes.items l.lanes.lanes.items × ((m : ℕ) → m < l.step-index → IsMarkedAt l.lanes.starts.items l.lanes.lanes.items (arc_at l.arcs (slice_index_or l.path m (0, false)).0) (slice_index_or l.path m (0, false)).0)
+invariant-loop-step l = record {
+  heads : l.lanes.heads ≡ l.initial.lanes.heads;
+  starts : l.lanes.starts.items ≡ l.initial.lanes.starts.items;
+  marked : IsMarked l.initial.lanes.lanes.items l.lanes.lanes.items;
+  held : HasMadeRows l.initial.lanes.heads.net l.initial.lanes.starts.items l.lanes.lanes.items;
+  all : IsPathMarked l.initial.lanes.heads.net.arcs l.initial.lanes.starts.items l.arcs l.path l.step-index l.lanes.lanes.items;
+}

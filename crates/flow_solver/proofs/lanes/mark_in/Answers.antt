@@ -1,6 +1,6 @@
 use Rattle.std.proofs.Common.{◌<◌, arith, length, refl}
 use Rattle.flow_solver.proofs.Fitting.{mark_turn, marked_none}
-use Rattle.flow_solver.proofs.lanes.mark_at.Goals as goal
+use Rattle.flow_solver.proofs.lanes.mark_in.Goals as goal
 
 pub loop-q-init : goal.loop-q-init
 loop-q-init c = (marked_none _, λ r ge less is. absurd (omega (arith, ge, less)))
