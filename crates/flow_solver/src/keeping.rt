@@ -21,8 +21,8 @@ use std::alloc::Global;
 /// which are never below 0, the least label first (Dijkstra 1959), from both ends at once (Pohl 1971), over binary heaps,
 /// and ends once the two searches can find no shorter path.
 ///
-/// A search opens only nodes near the two ends, and takes memory for two trees and two heaps. Prefer it to `Correcting`
-/// for all but very small networks.
+/// A search opens only nodes near the two ends, and takes memory for two trees, two heaps and the directions at the nodes
+/// that it opens. Prefer it to `Correcting` for all but very small networks.
 #[derive(Clone, Copy, Debug)]
 pub struct Keeping;
 
@@ -81,8 +81,8 @@ fn push_found(
     Ok(sent + amount)
 }
 
-/// A search from both ends over an instance: the instance's directions, by node, and the two searches, which keep their
-/// memory from one augmentation to the next.
+/// A search from both ends over an instance: the directions at the nodes that it has opened, and the two searches. They
+/// keep their memory from one augmentation to the next.
 #[derive(Drop)]
 struct KeepingSearch<'a> {
     lanes: Lanes<'a>,

@@ -29,8 +29,8 @@ pub(crate) struct Lane {
     pub(crate) used: bool,
 }
 
-/// The lanes at the nodes that a search has reached, those of a node together: node `v`'s from the `v`-th start on, one
-/// for each step out of it over the network of first arcs. A payment pays only for the nodes near its path.
+/// The lanes at the nodes whose steps a search has tried, those of a node together: node `v`'s from the `v`-th start on,
+/// one for each step out of it over the network of first arcs. A short search makes few of them.
 #[derive(Debug, Drop)]
 pub(crate) struct Lanes<'a> {
     pub(crate) heads: Residual<'a>,
@@ -106,7 +106,7 @@ pub(crate) fn make_row(lanes: &mut Lanes, residual: &FlowNet, node: u32) -> Resu
     Ok(())
 }
 
-/// The lanes at a node.
+/// The lanes at a node, which are made.
 pub(crate) fn row_of<'l>(lanes: &'l Lanes, node: u32) -> &'l [Lane]
     requires node { node < lanes.now.heads.net.nodes }
     requires made { IsMade lanes.now.starts.items node }
