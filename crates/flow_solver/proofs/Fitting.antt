@@ -1,5 +1,5 @@
 -- Lanes: how they are made, what stays as some are marked, and the lane of a step out of a node.
-use Rattle.std.proofs.Common.{ℕ, zero, suc, ◌+◌, ◌-◌, ◌<◌, ◌≤◌, ◌≡◌, Bool, true, false, List, [], ◌∷◌, ◌++◌, sym, refl, ap, ◌∙◌, subst, ⊎_elim, arith, length}
+use Rattle.std.proofs.Common.{ℕ, suc, ◌+◌, ◌<◌, ◌≤◌, ◌≡◌, Bool, true, false, List, [], ◌∷◌, ◌++◌, sym, refl, ap, ◌∙◌, subst, ⊎_elim, arith, length}
 use Rattle.std.specs.Prelude.{cond, drop, replicate, set, slice_index, slice_index_or, take}
 use Rattle.std.proofs.lemmas.Bool.{both_ways, cases_Bool, cases_eq, cases_lt}
 use Rattle.std.proofs.lemmas.List.{length-append, length-drop, length-replicate, length-take-le, get_or_append_left, get_or-drop, get_or-replicate, get_or-set_same, get_or-set_other, get_or-take}

@@ -1,5 +1,4 @@
-use Rattle.std.proofs.Common.{◌∙◌, arith}
-use Rattle.flow_solver.proofs.Fitting.{mark_path_turn, marked_on, rows_marked}
+use Rattle.std.proofs.Common.{arith}
 use Rattle.flow_solver.proofs.lanes.mark.Goals as goal
 
 pub returns-clause-all : goal.returns-clause-all

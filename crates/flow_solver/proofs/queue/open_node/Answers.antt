@@ -4,7 +4,6 @@ use Rattle.residual_net.specs.Residual.{steps_out}
 use Rattle.flow_model.specs.Instance.{arc_at}
 use Rattle.flow_solver.specs.Heads.{HasNoNext, IsOnlyNext}
 use Rattle.flow_solver.specs.Lanes.{IsRow, first_of, lane_at}
-use Rattle.flow_solver.specs.declared.lanes.Lane.{Lane}
 use Rattle.flow_solver.specs.declared.side.Side.{Side}
 use Rattle.flow_solver.specs.declared.queue.Meeting.{Meeting}
 use Rattle.flow_solver.specs.Search.{IsRelaxedTo, tail_of}
