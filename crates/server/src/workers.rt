@@ -55,7 +55,7 @@ where
             threads,
             &|_: usize, place: &mut Place<O, A, C, V::End>|
                 requires { MayRun (V.relates server.now) connections desk.now counter.now place.now }
-                ensures { Ran (V.relates server.now) A.accept_faults A.accepted connections place.entry.now place.exit.now }
+                ensures { Ran (V.relates server.entry.now) A.accept_faults A.accepted connections place.entry.now place.exit.now }
             { run_worker(rt, alloc, desk, counter, server, connections, place) },
         );
     }
