@@ -1,5 +1,5 @@
 -- What the ends of sessions and the entries of the journal have to do with each other, from what the pass has taken in.
-use Rattle.std.proofs.Common.{◌≡◌, ℕ, Option, zero, suc, ◌==◌, ◌+◌, ◌<◌, ◌≢◌, ◌⊎◌, inl, inr, cond, eq-eqb, ne_eqb, drop, List, [], ◌∷◌, length, sym, refl, ap, ◌∙◌, subst, ⊎_elim, arith, All, get_or}
+use Rattle.std.proofs.Common.{◌≡◌, ℕ, Option, zero, suc, ◌<◌, ◌≢◌, ◌⊎◌, inl, inr, cond, eq-eqb, ne_eqb, drop, List, [], ◌∷◌, length, sym, refl, ap, ◌∙◌, subst, ⊎_elim, arith, All, get_or}
 use Rattle.std.proofs.lemmas.List.{append-nil}
 use Rattle.std.proofs.lemmas.List.Elements.{All-cons, All-tail}
 use mathlib.Core.Logic.{dite}
