@@ -121,6 +121,6 @@ load_fault_is_not_bound status is same = subst IsLoadFault same is
 module _ {L C : Type 0} (left written : L → Option (List ℕ)) (moments : C → Option (List ℕ)) where
   pub answered_over : {A D : Type 0} (files : Files) (map local : Option Bytes) (channels locals : List Edge) (served : Option (Served A D))
       → IsLoadedAs map_reading files map channels → IsLoadedAs local_reading files local locals
-      → IfSome served (λ s. AllHaveAnswered left written moments channels locals s.sessions.items) → IfSome served (λ s. HaveAnsweredOver left written moments files map local s.sessions.items)
+      → IfSome served (λ s. AllHaveAnswered left written moments channels locals s.journal s.sessions.items) → IfSome served (λ s. HaveAnsweredOver left written moments files map local s.journal s.sessions.items)
   answered_over files map local channels locals None one two all = tt
   answered_over files map local channels locals (Some s) one two all = record { channels = channels; locals = locals; map_loaded = one; local_loaded = two; answered = all }

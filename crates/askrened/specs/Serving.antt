@@ -4,6 +4,8 @@ use Rattle.std.specs.List.Sorted.{IsStrictlyIncreasing}
 use Rattle.port_io.specs.Faults.{Rose}
 use Rattle.channel_map.specs.Reading.{local_reading, map_reading}
 use Rattle.channel_map.specs.declared.edge.Edge.{Edge}
+use Rattle.one_history.specs.declared.entry.Entry.{Entry}
+use Rattle.askrene_command.specs.declared.command.Command.{Command}
 use Rattle.turn_desk.specs.Numbers.{AreDistinct}
 use Rattle.session.specs.Ended.{EndedSession}
 use Rattle.server.specs.declared.worker.Session.{Session}
@@ -58,13 +60,14 @@ module _ {A C : Type 0} (faults accepted : A → ℕ) where
     pub accept_sum : All (HasRisenSum faults given served.workers.items) served.faults.items
 
 module _ {L C : Type 0} (left written : L → Option (List ℕ)) (moments : C → Option (List ℕ)) where
-  -- the map and the local file were loaded, and each session has answered with routes over them
-  pub record HaveAnsweredOver (files : Files) (map local : Option Bytes) (sessions : List (Session EndedSession)) : Type 0 where
+  -- the map and the local file were loaded, and each session has answered with routes over them, at the positions of this
+  -- history
+  pub record HaveAnsweredOver (files : Files) (map local : Option Bytes) (history : List (Entry Command)) (sessions : List (Session EndedSession)) : Type 0 where
     pub channels : List Edge
     pub locals : List Edge
     pub map_loaded : IsLoadedAs map_reading files map channels
     pub local_loaded : IsLoadedAs local_reading files local locals
-    pub answered : AllHaveAnswered left written moments channels locals sessions
+    pub answered : AllHaveAnswered left written moments channels locals history sessions
 
 -- the statuses of a service that did not begin
 abbrev pub IsUnserved : Status → Type 0

@@ -67,7 +67,7 @@ where
     ensures served { IfServes (invocation_of (map string_bytes words.now)) (λ service map_name local_name.
         IfSome result.served (HasServed B.Acceptor.accept_faults B.Acceptor.accepted service)) }
     ensures answered { IfServes (invocation_of (map string_bytes words.now)) (λ service map_name local_name.
-        IfSome result.served (λ served. HaveAnsweredOver B.Acceptor.Link.left B.Acceptor.Link.written B.Clock.moments (P.file places.old) map_name local_name served.sessions.items)) }
+        IfSome result.served (λ served. HaveAnsweredOver B.Acceptor.Link.left B.Acceptor.Link.written B.Clock.moments (P.file places.old) map_name local_name served.journal served.sessions.items)) }
     ensures status { IfSome result.served (λ served. result.status ≡ served_status served.faults.items) }
     ensures complete { IfServes (invocation_of (map string_bytes words.now)) (λ service map_name local_name.
         IsKnownGood map_reading (P.file places.old) map_name
@@ -131,7 +131,7 @@ where
     ensures unserved { result.served ≡ None → IsUnserved result.status }
     ensures served { IfSome result.served (HasServed B.Acceptor.accept_faults B.Acceptor.accepted (service_by service.now)) }
     ensures answered { IfSome result.served (λ served. HaveAnsweredOver B.Acceptor.Link.left B.Acceptor.Link.written B.Clock.moments
-        (P.file places.old) (option_map (λ name. name.now) map.entry) (option_map (λ name. name.now) local.entry) served.sessions.items) }
+        (P.file places.old) (option_map (λ name. name.now) map.entry) (option_map (λ name. name.now) local.entry) served.journal served.sessions.items) }
     ensures status { IfSome result.served (λ served. result.status ≡ served_status served.faults.items) }
     ensures complete { IsKnownGood map_reading (P.file places.old) (option_map (λ name. name.now) map.entry)
         → IsKnownGood local_reading (P.file places.old) (option_map (λ name. name.now) local.entry)
@@ -167,7 +167,7 @@ where
     ensures bind_fault { result.status ≡ Status.BindFault → Rose (B.bind_faults bind.old) (B.bind_faults bind.new) }
     ensures unserved { result.served ≡ None → IsUnserved result.status }
     ensures served { IfSome result.served (HasServed B.Acceptor.accept_faults B.Acceptor.accepted (service_by service.now)) }
-    ensures answered { IfSome result.served (λ served. AllHaveAnswered B.Acceptor.Link.left B.Acceptor.Link.written B.Clock.moments map.now local.now served.sessions.items) }
+    ensures answered { IfSome result.served (λ served. AllHaveAnswered B.Acceptor.Link.left B.Acceptor.Link.written B.Clock.moments map.now local.now served.journal served.sessions.items) }
     ensures status { IfSome result.served (λ served. result.status ≡ served_status served.faults.items) }
     ensures complete { (Rose (B.bind_faults bind.old) (B.bind_faults bind.new) → ⊥)
         → IfSome result.served (λ served. NoneFailed B.Acceptor.accept_faults served.workers.items)

@@ -4,6 +4,7 @@ use Rattle.std.proofs.lemmas.List.{append-nil}
 use Rattle.std.proofs.lemmas.List.Elements.{All-cons, All-tail}
 use mathlib.Core.Logic.{dite}
 use native.Mathlib.Decide.{ℕ_discrete}
+use mathlib.Core.List.{IsPrefix}
 use Rattle.one_history.specs.declared.entry.Entry.{Entry}
 use Rattle.one_history.specs.History.{entries_by}
 use Rattle.askrene_command.specs.declared.command.Command.{Command}
@@ -15,11 +16,12 @@ use Rattle.turn_desk.specs.declared.view.Kept.{Kept}
 use Rattle.channel_map.specs.declared.edge.Edge.{Edge}
 use Rattle.session.specs.Ended.{EndedSession}
 use Rattle.server.specs.declared.worker.Session.{Session}
+use Rattle.server.proofs.Turns.{prefix_on}
 use Rattle.server.specs.Work.{HasPass, IsSessionOf, OthersAreSilent, callers_of, taken_since}
 use Rattle.serve_command.specs.Served.{AllHaveAnswered, HasAnswered, HasOwnEnd, HasSession, HasToldEntries, IsEndOf}
 
 module _ {L C : Type 0} (left written : L → Option (List ℕ)) (moments : C → Option (List ℕ)) (channels locals : List Edge) where
-  abbrev IsEnd : EndedSession → ℕ → ℕ → Type 0
+  abbrev IsEnd : EndedSession → ℕ → ℕ → List (Entry Command) → Type 0
   IsEnd = IsEndOf left written moments channels locals
 
   own_end : (kept : List (Kept Command)) (s : Session EndedSession) → HasPass IsEnd kept s → HasOwnEnd s
@@ -29,12 +31,27 @@ module _ {L C : Type 0} (left written : L → Option (List ℕ)) (moments : C �
   pub own_ends : (kept : List (Kept Command)) (sessions : List (Session EndedSession)) → All (HasPass IsEnd kept) sessions → All HasOwnEnd sessions
   own_ends kept sessions h = λ k d lt. own_end kept (get_or sessions k d) (h k d lt)
 
-  answered : (kept : List (Kept Command)) (s : Session EndedSession) → HasPass IsEnd kept s → HasAnswered left written moments channels locals s.caller s.end.end
-  answered [] s h = absurd h
-  answered (k ∷ kept) s h = ⊎_elim (λ (one : IsSessionOf IsEnd s k). one.end.answered) (λ (rest : HasPass IsEnd kept s). answered kept s rest) h
+  -- a session whose caller has seen a part of the history is one over the whole of it
+  over_whole : (seen history : List (Entry Command)) (caller : ℕ) (ended : EndedSession) → IsPrefix seen history
+      → HasAnswered left written moments channels locals seen caller ended → HasAnswered left written moments channels locals history caller ended
+  over_whole seen history caller ended p h = record {
+    link = h.link;
+    link_after = h.link_after;
+    clock = h.clock;
+    clock_after = h.clock_after;
+    seen = h.seen;
+    seen_after = h.seen_after;
+    in_history = prefix_on h.seen_after seen history h.in_history p;
+    calls = h.calls;
+    session = h.session;
+  }
 
-  pub all_answered : (kept : List (Kept Command)) (sessions : List (Session EndedSession)) → All (HasPass IsEnd kept) sessions → AllHaveAnswered left written moments channels locals sessions
-  all_answered kept sessions h = λ k d lt. answered kept (get_or sessions k d) (h k d lt)
+  answered : (history : List (Entry Command)) (kept : List (Kept Command)) (s : Session EndedSession) → All (AgreesWith history) kept → HasPass IsEnd kept s
+      → HasAnswered left written moments channels locals history s.caller s.end
+  answered history [] s a h = absurd h
+  answered history (k ∷ kept) s a h = ⊎_elim
+      (λ (one : IsSessionOf IsEnd s k). over_whole k.seen history s.caller s.end (a 0 k (omega arith)).seen one.end.answered)
+      (λ (rest : HasPass IsEnd kept s). answered history kept s (All-tail (AgreesWith history) k kept a) rest) h
 
   told_entries : (history : List (Entry Command)) (kept : List (Kept Command)) (s : Session EndedSession) → All (AgreesWith history) kept → HasPass IsEnd kept s → HasToldEntries history s
   told_entries history [] s a h = absurd h
@@ -50,12 +67,20 @@ all_agree history p closes = subst (All (AgreesWith history)) (append-nil (kept_
 taken_all : (v w : View Command) → v.taken_in ≡ [] → taken_since v w ≡ w.taken_in
 taken_all v w none = ap (λ (l : List (Kept Command)). drop (length l) w.taken_in) none
 
-module _ {L C : Type 0} (left written : L → Option (List ℕ)) (moments : C → Option (List ℕ)) (channels locals : List Edge) where
-  pub all_told : (v : View Command) (p : PassValue Command) (history : List (Entry Command)) (sessions : List (Session EndedSession)) → v.taken_in ≡ [] → Closes (p ∷ []) history
-      → All (HasPass (IsEndOf left written moments channels locals) (taken_since v p.1)) sessions → All (HasToldEntries history) sessions
-  all_told v p history sessions none closes h = λ k d lt. told_entries left written moments channels locals history p.1.taken_in (get_or sessions k d)
-      (All-tail (AgreesWith history) (own_of p.1) p.1.taken_in (all_agree history p closes))
-      (subst (λ kept. HasPass (IsEndOf left written moments channels locals) kept (get_or sessions k d)) (taken_all v p.1 none) (h k d lt))
+module _ {L C : Type 0} (left written : L → Option (List ℕ)) (moments : C → Option (List ℕ)) (channels locals : List Edge) (v : View Command) (p : PassValue Command) (history : List (Entry Command))
+    (sessions : List (Session EndedSession)) (none : v.taken_in ≡ []) (closes : Closes (p ∷ []) history)
+    (ends : All (HasPass (IsEndOf left written moments channels locals) (taken_since v p.1)) sessions) where
+  taken_agree : All (AgreesWith history) p.1.taken_in
+  taken_agree = All-tail (AgreesWith history) (own_of p.1) p.1.taken_in (all_agree history p closes)
+
+  own_pass : (k : ℕ) (d : Session EndedSession) → k < length sessions → HasPass (IsEndOf left written moments channels locals) p.1.taken_in (get_or sessions k d)
+  own_pass k d lt = subst (λ kept. HasPass (IsEndOf left written moments channels locals) kept (get_or sessions k d)) (taken_all v p.1 none) (ends k d lt)
+
+  pub all_answered : AllHaveAnswered left written moments channels locals history sessions
+  all_answered = λ k d lt. answered left written moments channels locals history p.1.taken_in (get_or sessions k d) taken_agree (own_pass k d lt)
+
+  pub all_told : All (HasToldEntries history) sessions
+  all_told = λ k d lt. told_entries left written moments channels locals history p.1.taken_in (get_or sessions k d) taken_agree (own_pass k d lt)
 
 -- an entry is found under its caller
 own_is_found : (n : ℕ) (history : List (Entry Command)) → entries_by n history ≡ [] → (k : ℕ) (d : Entry Command) → k < length history → (get_or history k d).caller ≢ n

@@ -1,8 +1,8 @@
 -- What serving connections over one desk leaves: the ends of sessions, the entries of their callers, and the faults of workers.
 use Rattle.std.specs.Prelude.{◌≡◌, ℕ, ◌-◌, ◌^◌, ◌<◌, List, length, All, Option, slice_index_or, ⊤}
 use Rattle.std.specs.List.{sum_by}
+use mathlib.Core.List.{IsPrefix}
 use Rattle.port_io.specs.Faults.{Rose}
-use Rattle.port_io.specs.declared.session_end.SessionEnd.{SessionEnd}
 use Rattle.channel_map.specs.declared.edge.Edge.{Edge}
 use Rattle.one_history.specs.declared.entry.Entry.{Entry}
 use Rattle.one_history.specs.History.{entries_by}
@@ -19,15 +19,19 @@ use Rattle.server.specs.declared.worker.WorkFault.TheVariants.{Accept, NoMemory}
 use Rattle.server.specs.Work.{callers_of}
 
 module _ {L C : Type 0} (left written : L → Option (List ℕ)) (moments : C → Option (List ℕ)) (channels locals : List Edge) where
-  -- a connection and a clock before a session of the caller and after it, with routes over these channels
-  pub record HasAnswered (caller : ℕ) (end : SessionEnd) : Type 0 where
+  -- A connection and a clock before a session of the caller and after it, and what of this history the caller had seen then.
+  -- Each line was answered as the session's relation says, with routes over these channels, and the end tells how many
+  -- entries the caller has there now that it had not before.
+  pub record HasAnswered (history : List (Entry Command)) (caller : ℕ) (ended : EndedSession) : Type 0 where
     pub link : L
     pub link_after : L
     pub clock : C
     pub clock_after : C
     pub seen : List (Entry Command)
     pub seen_after : List (Entry Command)
-    pub session : IsToldSession (Answers channels locals) (one_of_many caller) end (record {
+    pub in_history : IsPrefix seen_after history
+    pub calls : ended.calls ≡ length (entries_by caller seen_after) - length (entries_by caller seen)
+    pub session : IsToldSession (Answers channels locals) (one_of_many caller) ended.end (record {
       input = left link;
       rest = left link_after;
       output = written link;
@@ -36,14 +40,14 @@ module _ {L C : Type 0} (left written : L → Option (List ℕ)) (moments : C �
       after = record { log = seen_after; clock = moments clock_after };
     })
 
-  abbrev pub AllHaveAnswered : List (Session EndedSession) → Type 0
-  AllHaveAnswered = All (λ s. HasAnswered s.caller s.end.end)
+  abbrev pub AllHaveAnswered : List (Entry Command) → List (Session EndedSession) → Type 0
+  AllHaveAnswered history = All (λ s. HasAnswered history s.caller s.end)
 
-  -- the end is one of a session of this caller, which has committed so many entries
-  pub record IsEndOf (ended : EndedSession) (caller calls : ℕ) : Type 0 where
+  -- the end is one of a session of this caller, which has committed so many entries and has then seen this
+  pub record IsEndOf (ended : EndedSession) (caller calls : ℕ) (seen : List (Entry Command)) : Type 0 where
     pub caller_is : ended.caller ≡ caller
     pub calls_are : ended.calls ≡ calls
-    pub answered : HasAnswered caller ended.end
+    pub answered : HasAnswered seen caller ended
 
 -- the end of a session is one of its caller
 abbrev pub HasOwnEnd : Session EndedSession → Type 0

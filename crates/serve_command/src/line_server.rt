@@ -34,7 +34,9 @@ impl<'a, L: Link, C: Clock, G: Gate, S: Solve> Serve<State, L, C> for LineServer
         link: &mut L,
         clock: &mut C,
     ) -> Ended {
-        serve_link(
+        // what is seen before and after holds the caller's calls of then, and so the end counts the calls between
+        let _ = pass.seen();
+        let ended = serve_link(
             rt,
             alloc,
             desk,
@@ -45,6 +47,8 @@ impl<'a, L: Link, C: Clock, G: Gate, S: Solve> Serve<State, L, C> for LineServer
             clock,
             self.gate,
             self.solver,
-        )
+        );
+        let _ = pass.seen();
+        ended
     }
 }

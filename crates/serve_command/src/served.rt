@@ -59,7 +59,7 @@ where
     requires workers { (0 < length workers.items) × (length workers.items ≤ WORKERS_MAX) }
     requires connections { (0 < connections) × (connections ≤ CONNECTIONS_MAX) }
     ensures ends { IfOk result (λ served. All HasOwnEnd served.sessions.items) }
-    ensures answered { IfOk result (λ served. AllHaveAnswered A.Link.left A.Link.written C.moments map.now local.now served.sessions.items) }
+    ensures answered { IfOk result (λ served. AllHaveAnswered A.Link.left A.Link.written C.moments map.now local.now served.journal served.sessions.items) }
     ensures calls { IfOk result (λ served. All (HasToldEntries served.journal) served.sessions.items) }
     ensures entries { IfOk result (λ served. All (HasSession served.sessions.items) served.journal) }
     ensures ascending { IfOk result (λ served. IsStrictlyIncreasing (session_numbers served.sessions.items)) }

@@ -4,6 +4,7 @@ use Rattle.std.specs.List.{AllZip, flat_map, sum_by}
 use Rattle.std.proofs.lemmas.List.{map-append, append_assoc, drop_at}
 use Rattle.std.proofs.lemmas.List.Elements.{All-append, All-cons, All-tail, All-nil, All-weaker}
 use Rattle.std.proofs.lemmas.List.Sums.{sum_by-cons}
+use Rattle.one_history.specs.declared.entry.Entry.{Entry}
 use Rattle.turn_desk.specs.Numbers.{times_in, IsAmong}
 use Rattle.turn_desk.specs.View.{own_of, kept_by, numbers_in}
 use Rattle.turn_desk.specs.declared.view.View.{View}
@@ -30,7 +31,7 @@ callers-append k xs ys = ap (times_in k) (map-append (λ s. s.caller) xs ys) ∙
 numbers-append : {M : Type 0} (k : ℕ) (xs ys : List (Kept M)) → times_in k (numbers_in (xs ++ ys)) ≡ times_in k (numbers_in xs) + times_in k (numbers_in ys)
 numbers-append k xs ys = ap (times_in k) (map-append (λ z. z.number) xs ys) ∙ times-append k (numbers_in xs) (numbers_in ys)
 
-module _ {E M : Type 0} (relates : E → ℕ → ℕ → Type 0) where
+module _ {E M : Type 0} (relates : E → ℕ → ℕ → List (Entry M) → Type 0) where
   zip_has : (ss : List (Session E)) (ks : List (Kept M)) → AllZip (IsSessionOf relates) ss ks → All (HasPass relates ks) ss
   zip_has [] ks h = All-nil (HasPass relates ks)
   zip_has (s ∷ ss) [] h = absurd h

@@ -9,6 +9,7 @@ use Rattle.std.proofs.lemmas.List.Sorted.{All-permutation, length_permutation}
 use mathlib.Core.Logic.{dite}
 use native.Mathlib.Decide.{dec_le}
 use Rattle.atomic_table.specs.Seated.{TableId}
+use Rattle.one_history.specs.declared.entry.Entry.{Entry}
 use Rattle.turn_desk.specs.Numbers.{times_in, AreDistinct}
 use Rattle.turn_desk.specs.Rule.{total}
 use Rattle.turn_desk.specs.View.{own_of, kept_by, numbers_in, numbers_of}
@@ -43,7 +44,7 @@ total_as_sum f g (x ∷ l) = let a = sum_by-cons g (f x) (map f l) in let b = su
 pub tells_all : (parts splits before places n : ℕ) → parts ≡ 1 + n → n ≡ places → before ≤ splits → before + places ≡ 64 → 65 ≤ parts + splits
 tells_all parts splits before places n e f h s = omega arith
 
-module _ {O A C E M R : Type 0} (relates : E → ℕ → ℕ → Type 0) (count given : A → ℕ) (n : ℕ) where
+module _ {O A C E M R : Type 0} (relates : E → ℕ → ℕ → List (Entry M) → Type 0) (count given : A → ℕ) (n : ℕ) where
   pub may_run : (desk counter : TableId) (places : List (Place O A C E M R)) → All (λ p. p.pass.0 ≡ desk) places → All (λ p. p.drawer.0 ≡ counter) places → All (λ p. IsReady n p.sessions.items p.drawer.1 p.pass.1 p.stop) places → All (MayRun relates n desk counter) places
   may_run desk counter places d s r = λ k x lt. record { on_desk = d k x lt; on_counter = s k x lt; no_sessions = (r k x lt).no_sessions; going = ready_going relates n _ _ _ _ (r k x lt); running = (r k x lt).running }
 
@@ -143,14 +144,14 @@ module _ {O A C E M R : Type 0} (relates : E → ℕ → ℕ → Type 0) (count 
 
 -- places at which no worker has run
 module _ {O A C E M R : Type 0} where
-  pub ready_serves : (n : ℕ) (ps : List (Place O A C E M R)) → All (λ p. IsReady n p.sessions.items p.drawer.1 p.pass.1 p.stop) ps → All (λ p. Serves (λ _ _ _. Unit {0}) n p.sessions.items p.pass.1) ps
-  ready_serves n ps h = λ k d lt. (ready_going (λ _ _ _. Unit {0}) n _ _ _ _ (h k d lt)).serves
+  pub ready_serves : (n : ℕ) (ps : List (Place O A C E M R)) → All (λ p. IsReady n p.sessions.items p.drawer.1 p.pass.1 p.stop) ps → All (λ p. Serves (λ _ _ _ _. Unit {0}) n p.sessions.items p.pass.1) ps
+  ready_serves n ps h = λ k d lt. (ready_going (λ _ _ _ _. Unit {0}) n _ _ _ _ (h k d lt)).serves
 
   pub unworked : (n : ℕ) (ps : List (Place O A C E M R)) → All (λ p. IsReady n p.sessions.items p.drawer.1 p.pass.1 p.stop) ps → (v v1 w : View M) → v1.taken_in ≡ v.taken_in → v1.made_from ≡ v.made_from ++ map (λ p. p.pass.1.number) ps
       → w.taken_in ≡ v1.taken_in ++ flat_map (λ p. kept_by p.pass.1) ps → w.made_from ≡ v1.made_from ++ flat_map (λ p. p.pass.1.made_from) ps → TakesBack v w
   unworked n ps ready v v1 w t1 m1 t m = takes_back v w (flat_map (λ p. kept_by p.pass.1) ps) (map (λ p. p.pass.1.number) ps) (flat_map (λ p. p.pass.1.made_from) ps)
       (t ∙ ap (λ z. z ++ flat_map (λ p. kept_by p.pass.1) ps) t1) (m ∙ ap (λ z. z ++ flat_map (λ p. p.pass.1.made_from) ps) m1)
-      (λ k. made_taken (λ _ _ _. Unit {0}) (λ p. p.pass.1) (λ p. p.sessions.items) n ps (ready_serves n ps ready) k)
+      (λ k. made_taken (λ _ _ _ _. Unit {0}) (λ p. p.pass.1) (λ p. p.sessions.items) n ps (ready_serves n ps ready) k)
 
   silent_places : (n : ℕ) (ps : List (Place O A C E M R)) → All (λ p. IsReady n p.sessions.items p.drawer.1 p.pass.1 p.stop) ps → All (λ kept. kept.calls ≡ []) (flat_map (λ p. kept_by p.pass.1) ps)
   silent_places n [] h = All-nil (λ (kept : Kept M). kept.calls ≡ [])

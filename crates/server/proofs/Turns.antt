@@ -4,6 +4,7 @@ use Rattle.std.specs.List.{AllZip}
 use Rattle.std.proofs.lemmas.List.{append-nil, append_assoc, map_push}
 use Rattle.std.proofs.lemmas.List.Elements.{All-tail, All-push, All-nil}
 use mathlib.Core.List.{IsPrefix}
+use Rattle.one_history.specs.declared.entry.Entry.{Entry}
 use Rattle.turn_desk.specs.declared.view.View.{View}
 use Rattle.turn_desk.specs.declared.view.Kept.{Kept}
 use Rattle.turn_desk.specs.View.{own_of, numbers_in}
@@ -41,10 +42,10 @@ module _ {M : Type 0} where
   pub follows_joined : (v other w : View M) → TakesIn v other w → Follows v w
   follows_joined v other w j = record { number = j.number; calls = j.calls; seen = j.seen }
 
-module _ {E M : Type 0} (relates : E → ℕ → ℕ → Type 0) where
+module _ {E M : Type 0} (relates : E → ℕ → ℕ → List (Entry M) → Type 0) where
   -- the worker's pass v made the pass a, which was served and is then b, and was taken in again
   pub one_more : (n : ℕ) (sessions : List (Session E)) (s : Session E) (v w a b u : View M) → Serves relates n sessions v → Continues v w → Makes v a w
-      → b.number ≡ a.number → b.made_from ≡ a.made_from → b.taken_in ≡ a.taken_in → relates s.end a.number (calls_gained a b) → TakesIn w b u
+      → b.number ≡ a.number → b.made_from ≡ a.made_from → b.taken_in ≡ a.taken_in → relates s.end a.number (calls_gained a b) b.seen → TakesIn w b u
       → s.caller ≡ b.number → s.number < n → Serves relates n (sessions ++ s ∷ []) u
   one_more n sessions s v w a b u h c m number made_from taken_in r j caller below =
       let nothing_in : b.taken_in ≡ [] = taken_in ∙ ap (λ z. z.taken_in) m.new_is in
@@ -55,7 +56,7 @@ module _ {E M : Type 0} (relates : E → ℕ → ℕ → Type 0) where
       record {
         taken_in = subst (AllZip (IsSessionOf relates) (sessions ++ s ∷ [])) (sym taken) (zip_push (IsSessionOf relates) sessions v.taken_in s (own_of b) h.taken_in record {
           caller = sym caller;
-          end = subst (λ z. relates s.end z (length b.calls)) (sym number ∙ sym caller) (subst (relates s.end a.number) (omega arith) r);
+          end = subst (λ z. relates s.end z (length b.calls) b.seen) (sym number ∙ sym caller) (subst (λ calls. relates s.end a.number calls b.seen) (omega arith) r);
         });
         below = All-push (λ s. s.number < n) sessions s h.below below;
         made_from = made ∙ ((λ i. h.made_from i ++ sym number i ∷ []) ∙ (sym (map_push (λ k. k.number) v.taken_in (own_of b)) ∙ ap numbers_in (sym taken)));
@@ -67,7 +68,7 @@ module _ {E M : Type 0} (relates : E → ℕ → ℕ → Type 0) where
 
   pub goes_on : (n : ℕ) (sessions more : List (Session E)) (s : Session E) (drawn drawn' : Drawn) (k : ℕ) (v w a b u : View M) → Going relates n sessions drawn v
       → drawn' ≡ record drawn { numbers = drawn.numbers ++ k ∷ [] } → more ≡ sessions ++ s ∷ [] → s.number ≡ k → k < n → s.caller ≡ b.number
-      → Continues v w → Makes v a w → b.number ≡ a.number → b.made_from ≡ a.made_from → b.taken_in ≡ a.taken_in → relates s.end a.number (calls_gained a b) → TakesIn w b u
+      → Continues v w → Makes v a w → b.number ≡ a.number → b.made_from ≡ a.made_from → b.taken_in ≡ a.taken_in → relates s.end a.number (calls_gained a b) b.seen → TakesIn w b u
       → Going relates n more drawn' u
   goes_on n sessions more s drawn drawn' k v w a b u h d pushed same lt caller c m number made_from taken_in r j = record {
     connections_are = ap (λ z. z.connections) d ∙ h.connections_are;

@@ -5,6 +5,7 @@ use Rattle.std.specs.Prelude.{◌≡◌, ℕ, ◌+◌, ◌-◌, ◌^◌, ◌<◌
 use Rattle.std.specs.List.{AllZip}
 use Rattle.atomic_table.specs.Seated.{TableId}
 use Rattle.port_io.specs.Faults.{Rose}
+use Rattle.one_history.specs.declared.entry.Entry.{Entry}
 use Rattle.turn_desk.specs.View.{numbers_in}
 use Rattle.turn_desk.specs.declared.view.View.{View}
 use Rattle.server.specs.declared.counter.Drawn.{Drawn}
@@ -18,7 +19,7 @@ use Rattle.server.specs.Work.{Follows, IsSessionOf, session_numbers}
 abbrev pub AcceptedFrom : ℕ → ℕ → ℕ → Type 0
 AcceptedFrom start sessions now = min (start + sessions) (2 ^ 64 - 1) ≤ now
 
-module _ {E M : Type 0} (relates : E → ℕ → ℕ → Type 0) where
+module _ {E M : Type 0} (relates : E → ℕ → ℕ → List (Entry M) → Type 0) where
   -- the pass has taken in the passes of the sessions, in order, and nothing else was made from it
   pub record Serves (connections : ℕ) (sessions : List (Session E)) (pass : View M) : Type 0 where
     pub taken_in : AllZip (IsSessionOf relates) sessions pass.taken_in
@@ -57,7 +58,7 @@ pub record IsReady {E M : Type 0} (connections : ℕ) (sessions : List (Session 
   pub calls : pass.calls ≡ []
   pub running : stop ≡ None
 
-module _ {O A C E M R : Type 0} (relates : E → ℕ → ℕ → Type 0) where
+module _ {O A C E M R : Type 0} (relates : E → ℕ → ℕ → List (Entry M) → Type 0) where
   -- a place at which a worker may run
   pub record MayRun (connections : ℕ) (desk counter : TableId) (p : Place O A C E M R) : Type 0 where
     pub on_desk : p.pass.0 ≡ desk

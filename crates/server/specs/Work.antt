@@ -3,6 +3,7 @@ use Rattle.std.specs.Prelude.{◌≡◌, ℕ, ◌+◌, ◌-◌, ◌^◌, ◌<◌
 use Rattle.std.specs.List.{sum_by}
 use mathlib.Core.List.{IsPrefix}
 use Rattle.port_io.specs.Faults.{Rose}
+use Rattle.one_history.specs.declared.entry.Entry.{Entry}
 use Rattle.turn_desk.specs.Numbers.{times_in, IsAmong}
 use Rattle.turn_desk.specs.View.{numbers_in}
 use Rattle.turn_desk.specs.declared.view.View.{View}
@@ -61,11 +62,11 @@ module _ {M : Type 0} where
     pub made_from : IsPrefix v.made_from w.made_from
     pub same : (k : ℕ) → times_in k (made_since v w) ≡ times_in k (numbers_in (taken_since v w))
 
-module _ {E M : Type 0} (relates : E → ℕ → ℕ → Type 0) where
-  -- the session's caller is this number, and its end is one of as many calls as are kept of it
+module _ {E M : Type 0} (relates : E → ℕ → ℕ → List (Entry M) → Type 0) where
+  -- the session's caller is this number, and its end is one of as many calls as are kept of it, after what is kept as seen
   pub record IsSessionOf (s : Session E) (kept : Kept M) : Type 0 where
     pub caller : kept.number ≡ s.caller
-    pub end : relates s.end s.caller (length kept.calls)
+    pub end : relates s.end s.caller (length kept.calls) kept.seen
 
   -- one of these numbers is the session's
   abbrev pub HasPass : List (Kept M) → Session E → Type 0

@@ -1,6 +1,7 @@
 -- The answer of workers, from the places that were prepared for them. It serves private clauses only.
 use Rattle.std.specs.Prelude.{◌≡◌, ℕ, ◌+◌, ◌<◌, ◌≤◌, map, List, ◌++◌, length, All}
 use Rattle.std.specs.List.Sorted.{IsStrictlyIncreasing}
+use Rattle.one_history.specs.declared.entry.Entry.{Entry}
 use Rattle.turn_desk.specs.Numbers.{AreDistinct}
 use Rattle.turn_desk.specs.View.{numbers_of}
 use Rattle.turn_desk.specs.declared.view.View.{View}
@@ -27,7 +28,7 @@ pub record Outcome (A C E M : Type 0) : Type 0 where
   pub faults : List WorkFault
 
 -- all that is said of it, if the pass was v and these were the workers
-pub record Works {A C E M : Type 0} (relates : E → ℕ → ℕ → Type 0) (fault_count given : A → ℕ) (connections : ℕ) (workers : List (Worker A C)) (v : View M) (o : Outcome A C E M) : Type 0 where
+pub record Works {A C E M : Type 0} (relates : E → ℕ → ℕ → List (Entry M) → Type 0) (fault_count given : A → ℕ) (connections : ℕ) (workers : List (Worker A C)) (v : View M) (o : Outcome A C E M) : Type 0 where
   pub follows : Follows v o.pass
   pub draws : o.pass.draws ≤ v.draws + length workers
   pub takes_back : TakesBack v o.pass

@@ -1,5 +1,6 @@
-ghost use Rattle.std.specs.Prelude.{◌≡◌, ℕ, ◌≤◌, ◌+◌};
+ghost use Rattle.std.specs.Prelude.{◌≡◌, ℕ, List, ◌≤◌, ◌+◌};
 ghost use Rattle.std.specs.Thread.{IsSync};
+ghost use Rattle.one_history.specs.declared.entry.Entry.{Entry};
 ghost use Rattle.server.specs.Serving.{calls_gained};
 ghost use Rattle.server.specs.declared.limits.TheConstants.{SERVING_TURNS};
 ghost use Rattle.turn_desk.specs.declared.limits.TheConstants.{TURNS_MAX};
@@ -16,8 +17,9 @@ pub trait Serve<O: Object, L: Link, C: Clock> {
     /// How the serving of a connection ended.
     type End: Send + Drop;
 
-    /// Whether an end, answered by this server, is one of this caller that has made so many calls.
-    ghost relates: { Self → Self.End → ℕ → ℕ → Type 0 };
+    /// Whether an end, answered by this server, is one of this caller that has made so many calls and has then seen this
+    /// first part of the history.
+    ghost relates: { Self → Self.End → ℕ → ℕ → List (Entry O.Command) → Type 0 };
 
     /// Serves a connection on a pass of this desk, and returns how it ended. Nothing is made from the pass, and it takes nothing
     /// in.
@@ -38,5 +40,5 @@ pub trait Serve<O: Object, L: Link, C: Clock> {
         ensures number { pass.new.1.number ≡ pass.old.1.number }
         ensures made_from { pass.new.1.made_from ≡ pass.old.1.made_from }
         ensures taken_in { pass.new.1.taken_in ≡ pass.old.1.taken_in }
-        ensures end { relates self.now result pass.old.1.number (calls_gained pass.old.1 pass.new.1) };
+        ensures end { relates self.now result pass.old.1.number (calls_gained pass.old.1 pass.new.1) pass.new.1.seen };
 }

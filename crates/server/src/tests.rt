@@ -66,7 +66,7 @@ struct AddFirst;
 impl<L: Link, C: Clock> Serve<Sum, L, C> for AddFirst {
     type End = Added;
 
-    ghost relates = { λ server added caller calls. (added.caller ≡ caller) × (added.calls ≡ calls) };
+    ghost relates = { λ server added caller calls seen. (added.caller ≡ caller) × (added.calls ≡ calls) };
 
     fn serve<R: Threads + Wait + Sync>(
         &self,
@@ -99,7 +99,7 @@ struct Meet<'a> {
 impl<'a, L: Link, C: Clock> Serve<Sum, L, C> for Meet<'a> {
     type End = bool;
 
-    ghost relates = { λ server met caller calls. calls ≡ 0 };
+    ghost relates = { λ server met caller calls seen. calls ≡ 0 };
 
     fn serve<R: Threads + Wait + Sync>(
         &self,

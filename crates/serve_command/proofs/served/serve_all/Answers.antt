@@ -7,7 +7,7 @@ pub returns-clause-ends : goal.returns-clause-ends
 returns-clause-ends g c = own_ends _ _ _ _ _ _ _ c.in-Ok.ensures.ends
 
 pub returns-clause-answered : goal.returns-clause-answered
-returns-clause-answered g c = all_answered _ _ _ _ _ _ _ c.in-Ok.ensures.ends
+returns-clause-answered g c = all_answered _ _ _ _ _ c.in_ok-desk.pass.1 _ _ _ (ap (λ p. p.1.taken_in) c.in_ok-desk.ensures) c.close_with-journal.ensures c.in-Ok.ensures.ends
 
 pub returns-clause-calls : goal.returns-clause-calls
 returns-clause-calls g c = all_told _ _ _ _ _ c.in_ok-desk.pass.1 _ _ _ (ap (λ p. p.1.taken_in) c.in_ok-desk.ensures) c.close_with-journal.ensures c.in-Ok.ensures.ends
