@@ -17,3 +17,4 @@ pub mod Queues
 pub mod Seen
 pub mod Carried
 pub mod Sides
+pub mod Listed

@@ -6,3 +6,4 @@ pub mod TwoSided
 pub mod Augmented
 pub mod Heads
 pub mod Lanes
+pub mod NodeLabels

@@ -13,20 +13,22 @@ use Rattle.flow_solver.specs.Meeting.{IsMeeting}
 
 -- the source's search and the destination's, each with its tree and its queue, and their best meeting
 pub record IsTwoSided (residual : ResidualNet) (p : List ℤ) (source destination : Side) (best node : ℕ) : Type 0 where
-  pub tree : IsSearchTree residual p source.labels.items source.parents.items
+  pub tree : IsSearchTree residual p source.labels source.parents.items
   pub heap : IsHeap nat_cmp (heap_items source.heap)
-  pub queue : IsQueue residual p source.labels.items best (heap_items source.heap)
-  pub back : IsSearchTree (turned residual) (against p) destination.labels.items destination.parents.items
+  pub queue : IsQueue residual p source.labels best (heap_items source.heap)
+  pub back : IsSearchTree (turned residual) (against p) destination.labels destination.parents.items
   pub back_heap : IsHeap nat_cmp (heap_items destination.heap)
-  pub back_queue : IsQueue (turned residual) (against p) destination.labels.items best (heap_items destination.heap)
-  pub meeting : IsMeeting residual.net.nodes source.labels.items destination.labels.items best node
+  pub back_queue : IsQueue (turned residual) (against p) destination.labels best (heap_items destination.heap)
+  pub meeting : IsMeeting residual.net.nodes source.labels destination.labels best node
 
 -- a number that falls with each step of a search
 abbrev pub size_of : Side → ℕ
-size_of side = sum_of_labels side.labels.items + length (heap_items side.heap)
+size_of side = sum_of_labels side.labels + length (heap_items side.heap)
 
 -- the lanes of a network's directions, and two searches over its nodes
 pub record FitsSearch (residual : ResidualNet) (lanes : Lanes) (source destination : Side) : Type 0 where
   pub lanes_fit : FitsLanes residual lanes.heads.net lanes.starts.items lanes.lanes.items
   pub source_long : length source.parents.items ≡ residual.net.nodes
+  pub source_labels : length source.labels ≡ residual.net.nodes
   pub destination_long : length destination.parents.items ≡ residual.net.nodes
+  pub destination_labels : length destination.labels ≡ residual.net.nodes

@@ -55,7 +55,7 @@ fn push_found(
     requires less { sent < instance.now.demand }
     requires partial { IsPartialSolution residual.old potentials.old sent }
     requires lanes { FitsLanes residual.old lanes.old.heads.net lanes.old.starts.items lanes.old.lanes.items }
-    requires carried { IsCarriedOn residual.old potentials.old source.now.labels.items source.now.parents.items destination.now.labels.items found.radius found.best }
+    requires carried { IsCarriedOn residual.old potentials.old source.now.labels source.now.parents.items destination.now.labels found.radius found.best }
     ensures more { IfOk result (λ n. sent < n) }
     ensures most { IfOk result (λ n. n ≤ instance.now.demand) }
     ensures partial { IfOk result (λ n. IsPartialSolution residual.new potentials.new n) }
@@ -72,8 +72,8 @@ fn push_found(
     let amount = least_room(residual, &path, instance.demand() - sent);
     lift(
         potentials,
-        &source.labels,
-        &destination.labels,
+        source.labels.list(),
+        destination.labels.list(),
         found.radius,
         found.best - found.radius,
     );
@@ -105,8 +105,8 @@ impl<'a> Augment for KeepingSearch<'a> {
     ) -> Result<Augmented, NoMemory> {
         let end = instance.destination();
         let nodes = instance.nodes();
-        begin(&mut self.source, nodes, instance.source())?;
-        begin(&mut self.destination, nodes, end)?;
+        begin(&mut self.source, instance.source())?;
+        begin(&mut self.destination, end)?;
         let found = meet(
             residual,
             &mut self.lanes,
@@ -115,7 +115,7 @@ impl<'a> Augment for KeepingSearch<'a> {
             &mut self.destination,
         )?;
         if found.best == UNREACHED {
-            let side = reached_nodes(alloc, &self.source.labels)?;
+            let side = reached_nodes(alloc, self.source.labels.list())?;
             return Ok(Augmented::Cut { side });
         }
         carry(

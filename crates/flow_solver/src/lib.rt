@@ -11,6 +11,7 @@ mod labels;
 mod lanes;
 mod lift;
 mod meeting;
+mod node_labels;
 mod queue;
 mod side;
 mod steps;

@@ -26,11 +26,11 @@ pub(crate) fn carry(
     requires nodes { nodes ≡ residual.now.net.nodes }
     requires shown { IsFlowShown residual.now _potentials.now }
     requires two { IsTwoSided residual.now _potentials.now source.old destination.now found.best found.node }
-    requires met { IsMet residual.now _potentials.now source.old.labels.items destination.now.labels.items found.radius (found.best - found.radius) found.best }
+    requires met { IsMet residual.now _potentials.now source.old.labels destination.now.labels found.radius (found.best - found.radius) found.best }
     requires reached { found.best < UNREACHED }
     requires radius { found.radius ≤ found.best }
     ensures parents { length source.new.parents.items ≡ length source.old.parents.items }
-    ensures carried { IsCarriedOn residual.now _potentials.now source.new.labels.items source.new.parents.items destination.now.labels.items found.radius found.best }
+    ensures carried { IsCarriedOn residual.now _potentials.now source.new.labels source.new.parents.items destination.now.labels found.radius found.best }
 {
     let arcs = residual.arcs();
     let mut node = found.node;
@@ -40,7 +40,7 @@ pub(crate) fn carry(
         }
         let step = destination.parents[node as usize];
         let next = head_of(arcs[step.0 as usize], step.1);
-        let label = found.best - destination.labels[next as usize];
+        let label = found.best - destination.labels.get(next);
         let _lower = lower_end(source, next, label, step, UNREACHED);
         node = next;
     }

@@ -119,7 +119,7 @@ pub(crate) fn meet(
     requires two { IsTwoSided residual.now potentials.now source.old destination.old UNREACHED 0 }
     ensures lanes { OnOk result (FitsLanes residual.now lanes.new.heads.net lanes.new.starts.items lanes.new.lanes.items) }
     ensures two { IfOk result (λ f. IsTwoSided residual.now potentials.now source.new destination.new f.best f.node) }
-    ensures met { IfOk result (λ f. IsMet residual.now potentials.now source.new.labels.items destination.new.labels.items f.radius (f.best - f.radius) f.best) }
+    ensures met { IfOk result (λ f. IsMet residual.now potentials.now source.new.labels destination.new.labels f.radius (f.best - f.radius) f.best) }
     ensures radius { IfOk result (λ f. f.radius ≤ f.best) }
     ensures whole { IfOk result (λ f. f.best ≡ UNREACHED → f.radius ≡ UNREACHED) }
 {

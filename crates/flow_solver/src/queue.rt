@@ -89,19 +89,19 @@ fn lower_over(
     requires step { IsStepOf residual.now step }
     requires bounded { HasBoundedPotentials residual.now.net potentials.now }
     requires shown { IsFlowShown residual.now potentials.now }
-    requires tree { IsSearchTree (seen turned residual.now) (seen_potentials turned potentials.now) side.old.labels.items side.old.parents.items }
-    ensures tree { IsSearchTree (seen turned residual.now) (seen_potentials turned potentials.now) side.new.labels.items side.new.parents.items }
+    requires tree { IsSearchTree (seen turned residual.now) (seen_potentials turned potentials.now) side.old.labels side.old.parents.items }
+    ensures tree { IsSearchTree (seen turned residual.now) (seen_potentials turned potentials.now) side.new.labels side.new.parents.items }
     ensures node { IfSome result (λ r. r.0 < residual.now.net.nodes) }
-    ensures lower { IfSome result (λ r. r.1 < slice_index side.old.labels.items r.0) }
-    ensures labels { IfSome result (λ r. side.new.labels.items ≡ set side.old.labels.items r.0 r.1) }
-    ensures same { IfNone result (side.new.labels.items ≡ side.old.labels.items) }
-    ensures relaxed { IsRelaxedTo (seen turned residual.now).net.arcs (seen_potentials turned potentials.now) side.new.labels.items bound step.arc step.back }
-    ensures tail { slice_index side.new.labels.items (words.tail_of (arc_at (seen turned residual.now).net.arcs step.arc) step.back) ≡ slice_index side.old.labels.items (words.tail_of (arc_at (seen turned residual.now).net.arcs step.arc) step.back) }
+    ensures lower { IfSome result (λ r. r.1 < slice_index side.old.labels r.0) }
+    ensures labels { IfSome result (λ r. side.new.labels ≡ set side.old.labels r.0 r.1) }
+    ensures same { IfNone result (side.new.labels ≡ side.old.labels) }
+    ensures relaxed { IsRelaxedTo (seen turned residual.now).net.arcs (seen_potentials turned potentials.now) side.new.labels bound step.arc step.back }
+    ensures tail { slice_index side.new.labels (words.tail_of (arc_at (seen turned residual.now).net.arcs step.arc) step.back) ≡ slice_index side.old.labels (words.tail_of (arc_at (seen turned residual.now).net.arcs step.arc) step.back) }
     ensures heap { heap_items side.new.heap ≡ heap_items side.old.heap }
 {
     let _arcs = residual.arcs();
     let (near, far) = ends_of(step, turned);
-    let label = side.labels[near as usize] + cost_of_next(potentials, step);
+    let label = side.labels.get(near) + cost_of_next(potentials, step);
     if lower_end(side, far, label, (step.arc, step.back), bound) {
         Some((far, label))
     } else {
@@ -122,23 +122,23 @@ fn queue_step(
     requires step { IsStepOf residual.now step }
     requires bounded { HasBoundedPotentials residual.now.net potentials.now }
     requires shown { IsFlowShown residual.now potentials.now }
-    requires tree { IsSearchTree (seen turned residual.now) (seen_potentials turned potentials.now) side.old.labels.items side.old.parents.items }
-    requires other { length other.now.labels.items ≡ residual.now.net.nodes }
-    requires other_most { (v : ℕ) → slice_index other.now.labels.items v ≤ UNREACHED }
-    requires meeting { IsMeeting residual.now.net.nodes side.old.labels.items other.now.labels.items meeting.best meeting.node }
-    ensures tree { OnOk result (IsSearchTree (seen turned residual.now) (seen_potentials turned potentials.now) side.new.labels.items side.new.parents.items) }
-    ensures meeting { IfOk result (λ m. IsMeeting residual.now.net.nodes side.new.labels.items other.now.labels.items m.best m.node) }
+    requires tree { IsSearchTree (seen turned residual.now) (seen_potentials turned potentials.now) side.old.labels side.old.parents.items }
+    requires other { length other.now.labels ≡ residual.now.net.nodes }
+    requires other_most { (v : ℕ) → slice_index other.now.labels v ≤ UNREACHED }
+    requires meeting { IsMeeting residual.now.net.nodes side.old.labels other.now.labels meeting.best meeting.node }
+    ensures tree { OnOk result (IsSearchTree (seen turned residual.now) (seen_potentials turned potentials.now) side.new.labels side.new.parents.items) }
+    ensures meeting { IfOk result (λ m. IsMeeting residual.now.net.nodes side.new.labels other.now.labels m.best m.node) }
     ensures best { IfOk result (λ m. m.best ≤ meeting.best) }
-    ensures progress { OnOk result (IsQueueProgress side.old.labels.items (heap_items side.old.heap) side.new.labels.items (heap_items side.new.heap)) }
-    ensures relaxed { IfOk result (λ m. IsRelaxedTo (seen turned residual.now).net.arcs (seen_potentials turned potentials.now) side.new.labels.items m.best step.arc step.back) }
-    ensures tail { OnOk result (slice_index side.new.labels.items (words.tail_of (arc_at (seen turned residual.now).net.arcs step.arc) step.back) ≡ slice_index side.old.labels.items (words.tail_of (arc_at (seen turned residual.now).net.arcs step.arc) step.back)) }
+    ensures progress { OnOk result (IsQueueProgress side.old.labels (heap_items side.old.heap) side.new.labels (heap_items side.new.heap)) }
+    ensures relaxed { IfOk result (λ m. IsRelaxedTo (seen turned residual.now).net.arcs (seen_potentials turned potentials.now) side.new.labels m.best step.arc step.back) }
+    ensures tail { OnOk result (slice_index side.new.labels (words.tail_of (arc_at (seen turned residual.now).net.arcs step.arc) step.back) ≡ slice_index side.old.labels (words.tail_of (arc_at (seen turned residual.now).net.arcs step.arc) step.back)) }
 {
     let _nodes = residual.arcs();
     match lower_over(residual, potentials, side, step, turned, meeting.best) {
         None => Ok(meeting),
         Some((node, label)) => {
             side.heap.push(key_of(label, node))?;
-            Ok(better(meeting, label, other.labels[node as usize], node))
+            Ok(better(meeting, label, other.labels.get(node), node))
         }
     }
 }
@@ -158,15 +158,15 @@ fn open_node(
     requires order { InOrder residual.now.net.arcs residual.now.flow }
     requires bounded { HasBoundedPotentials residual.now.net potentials.now }
     requires shown { IsFlowShown residual.now potentials.now }
-    requires tree { IsSearchTree (seen turned residual.now) (seen_potentials turned potentials.now) side.old.labels.items side.old.parents.items }
-    requires other { length other.now.labels.items ≡ residual.now.net.nodes }
-    requires other_most { (v : ℕ) → slice_index other.now.labels.items v ≤ UNREACHED }
-    requires meeting { IsMeeting residual.now.net.nodes side.old.labels.items other.now.labels.items meeting.best meeting.node }
-    ensures tree { OnOk result (IsSearchTree (seen turned residual.now) (seen_potentials turned potentials.now) side.new.labels.items side.new.parents.items) }
-    ensures meeting { IfOk result (λ m. IsMeeting residual.now.net.nodes side.new.labels.items other.now.labels.items m.best m.node) }
+    requires tree { IsSearchTree (seen turned residual.now) (seen_potentials turned potentials.now) side.old.labels side.old.parents.items }
+    requires other { length other.now.labels ≡ residual.now.net.nodes }
+    requires other_most { (v : ℕ) → slice_index other.now.labels v ≤ UNREACHED }
+    requires meeting { IsMeeting residual.now.net.nodes side.old.labels other.now.labels meeting.best meeting.node }
+    ensures tree { OnOk result (IsSearchTree (seen turned residual.now) (seen_potentials turned potentials.now) side.new.labels side.new.parents.items) }
+    ensures meeting { IfOk result (λ m. IsMeeting residual.now.net.nodes side.new.labels other.now.labels m.best m.node) }
     ensures best { IfOk result (λ m. m.best ≤ meeting.best) }
-    ensures progress { OnOk result (IsQueueProgress side.old.labels.items (heap_items side.old.heap) side.new.labels.items (heap_items side.new.heap)) }
-    ensures relaxed { IfOk result (λ m. IsRelaxedFrom (seen turned residual.now) (seen_potentials turned potentials.now) side.new.labels.items m.best node) }
+    ensures progress { OnOk result (IsQueueProgress side.old.labels (heap_items side.old.heap) side.new.labels (heap_items side.new.heap)) }
+    ensures relaxed { IfOk result (λ m. IsRelaxedFrom (seen turned residual.now) (seen_potentials turned potentials.now) side.new.labels m.best node) }
 {
     let _arcs = residual.arcs();
     let mut found = meeting;
@@ -192,25 +192,25 @@ pub(crate) fn expand(
     requires lanes { FitsLanes residual.now lanes.old.heads.net lanes.old.starts.items lanes.old.lanes.items }
     requires bounded { HasBoundedPotentials residual.now.net potentials.now }
     requires shown { IsFlowShown residual.now potentials.now }
-    requires tree { IsSearchTree (seen turned residual.now) (seen_potentials turned potentials.now) side.old.labels.items side.old.parents.items }
+    requires tree { IsSearchTree (seen turned residual.now) (seen_potentials turned potentials.now) side.old.labels side.old.parents.items }
     requires heap { IsHeap nat_cmp (heap_items side.old.heap) }
-    requires queue { IsQueue (seen turned residual.now) (seen_potentials turned potentials.now) side.old.labels.items meeting.best (heap_items side.old.heap) }
-    requires other { length other.now.labels.items ≡ residual.now.net.nodes }
-    requires other_most { (v : ℕ) → slice_index other.now.labels.items v ≤ UNREACHED }
-    requires meeting { IsMeeting residual.now.net.nodes side.old.labels.items other.now.labels.items meeting.best meeting.node }
+    requires queue { IsQueue (seen turned residual.now) (seen_potentials turned potentials.now) side.old.labels meeting.best (heap_items side.old.heap) }
+    requires other { length other.now.labels ≡ residual.now.net.nodes }
+    requires other_most { (v : ℕ) → slice_index other.now.labels v ≤ UNREACHED }
+    requires meeting { IsMeeting residual.now.net.nodes side.old.labels other.now.labels meeting.best meeting.node }
     ensures lanes { OnOk result (FitsLanes residual.now lanes.new.heads.net lanes.new.starts.items lanes.new.lanes.items) }
-    ensures tree { OnOk result (IsSearchTree (seen turned residual.now) (seen_potentials turned potentials.now) side.new.labels.items side.new.parents.items) }
+    ensures tree { OnOk result (IsSearchTree (seen turned residual.now) (seen_potentials turned potentials.now) side.new.labels side.new.parents.items) }
     ensures heap { OnOk result (IsHeap nat_cmp (heap_items side.new.heap)) }
-    ensures queue { IfOk result (λ m. IsQueue (seen turned residual.now) (seen_potentials turned potentials.now) side.new.labels.items m.best (heap_items side.new.heap)) }
-    ensures meeting { IfOk result (λ m. IsMeeting residual.now.net.nodes side.new.labels.items other.now.labels.items m.best m.node) }
+    ensures queue { IfOk result (λ m. IsQueue (seen turned residual.now) (seen_potentials turned potentials.now) side.new.labels m.best (heap_items side.new.heap)) }
+    ensures meeting { IfOk result (λ m. IsMeeting residual.now.net.nodes side.new.labels other.now.labels m.best m.node) }
     ensures best { IfOk result (λ m. m.best ≤ meeting.best) }
-    ensures less { OnOk result (0 < length (heap_items side.old.heap) → sum_of_labels side.new.labels.items + length (heap_items side.new.heap) < sum_of_labels side.old.labels.items + length (heap_items side.old.heap)) }
+    ensures less { OnOk result (0 < length (heap_items side.old.heap) → sum_of_labels side.new.labels + length (heap_items side.new.heap) < sum_of_labels side.old.labels + length (heap_items side.old.heap)) }
 {
     let _arcs = residual.arcs();
     let Some(key) = side.heap.pop() else {
         return Ok(meeting);
     };
-    let Some(node) = node_of(&side.labels, key) else {
+    let Some(node) = node_of(side.labels.list(), key) else {
         return Ok(meeting);
     };
     make_row(lanes, residual, node)?;

@@ -7,6 +7,7 @@ ghost use Rattle.flow_solver.specs.declared.labels.TheConstants.{UNREACHED};
 ghost use Rattle.flow_solver.specs.Queue as queue;
 
 use crate::labels::UNREACHED;
+use crate::node_labels::{NodeLabels, no_labels};
 use flow_model::NODES_MAX;
 use plan_base::NoMemory;
 use std::alloc::Global;
@@ -16,7 +17,7 @@ use std::collections::BinaryHeap;
 /// still to be tried, the one with the least label first; and how many steps it has tried.
 #[derive(Drop)]
 pub(crate) struct Side {
-    pub(crate) labels: Vec<u128>,
+    pub(crate) labels: NodeLabels,
     pub(crate) parents: Vec<(u32, bool)>,
     pub(crate) heap: BinaryHeap<u128>,
     pub(crate) work: u64,
@@ -24,10 +25,10 @@ pub(crate) struct Side {
 
 /// A search that has not begun.
 pub(crate) fn no_side(alloc: Global, nodes: u32) -> Result<Side, NoMemory>
-    ensures labels { IfOk result (λ s. length s.labels.items ≡ nodes) }
+    ensures labels { IfOk result (λ s. length s.labels ≡ nodes) }
     ensures parents { IfOk result (λ s. length s.parents.items ≡ nodes) }
 {
-    let labels = Vec::from_elem(alloc, UNREACHED, nodes as usize)?;
+    let labels = no_labels(alloc, nodes)?;
     let parents = Vec::from_elem(alloc, (0, false), nodes as usize)?;
     Ok(Side {
         labels,
@@ -38,17 +39,16 @@ pub(crate) fn no_side(alloc: Global, nodes: u32) -> Result<Side, NoMemory>
 }
 
 /// The search that has reached its end and no other node.
-pub(crate) fn begin(side: &mut Side, nodes: u32, end: u32) -> Result<(), NoMemory>
-    requires end { end < nodes }
-    requires few { nodes ≤ NODES_MAX }
-    ensures labels { OnOk result (side.new.labels.items ≡ set (replicate nodes UNREACHED) end 0) }
+pub(crate) fn begin(side: &mut Side, end: u32) -> Result<(), NoMemory>
+    requires end { end < length side.old.labels }
+    requires few { length side.old.labels ≤ NODES_MAX }
+    ensures labels { OnOk result (side.new.labels ≡ set (replicate (length side.old.labels) UNREACHED) end 0) }
     ensures parents { side.new.parents.items ≡ side.old.parents.items }
     ensures heap { OnOk result (IsHeap nat_cmp (heap_items side.new.heap)) }
     ensures queue { OnOk result (IsPermutation (queue.key_of 0 end ∷ []) (heap_items side.new.heap)) }
 {
     side.labels.clear();
-    side.labels.resize(nodes as usize, UNREACHED)?;
-    side.labels[end as usize] = 0;
+    side.labels.lower(end, 0);
     side.heap.clear();
     side.heap.push(key_of(0, end))?;
     side.work = 0;
@@ -104,23 +104,23 @@ pub(crate) fn lower_end(
     step: (u32, bool),
     bound: u128,
 ) -> bool
-    requires node { node < length side.old.labels.items }
+    requires node { node < length side.old.labels }
     requires parents { node < length side.old.parents.items }
-    ensures lower { IsTrue result → label < slice_index side.old.labels.items node }
-    ensures labels { IsTrue result → side.new.labels.items ≡ set side.old.labels.items node label }
+    ensures lower { IsTrue result → label < slice_index side.old.labels node }
+    ensures labels { IsTrue result → side.new.labels ≡ set side.old.labels node label }
     ensures parents { IsTrue result → side.new.parents.items ≡ set side.old.parents.items node step }
-    ensures relaxed { IsFalse result → min (slice_index side.old.labels.items node) bound ≤ label }
-    ensures same { IsFalse result → side.new.labels.items ≡ side.old.labels.items }
+    ensures relaxed { IsFalse result → min (slice_index side.old.labels node) bound ≤ label }
+    ensures same { IsFalse result → side.new.labels ≡ side.old.labels }
     ensures kept { IsFalse result → side.new.parents.items ≡ side.old.parents.items }
     ensures heap { heap_items side.new.heap ≡ heap_items side.old.heap }
 {
-    if side.labels[node as usize] <= label {
+    if side.labels.get(node) <= label {
         return false;
     }
     if bound <= label {
         return false;
     }
-    side.labels[node as usize] = label;
+    side.labels.lower(node, label);
     side.parents[node as usize] = step;
     true
 }

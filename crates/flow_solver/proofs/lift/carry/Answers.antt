@@ -1,6 +1,5 @@
 use Rattle.std.proofs.Common.{ℕ, Bool, false, ◌<◌, ◌≤◌, ◌≡◌, ◌+◌, ◌-◌, ◌∙◌, List, length, arith, ap, sym, subst}
-use Rattle.std.specs.Prelude.{slice_index, slice_index_or, set, min}
-use Rattle.std.proofs.lemmas.Grind.{get_or_default_zero}
+use Rattle.std.specs.Prelude.{slice_index, set, min}
 use Rattle.residual_net.proofs.Loads.{get_or-any}
 use Rattle.flow_solver.specs.declared.labels.TheConstants.{UNREACHED}
 use Rattle.flow_model.specs.declared.instance.Arc.{Arc}
@@ -12,15 +11,15 @@ use Rattle.flow_solver.proofs.lift.carry.Goals as goal
 pub loop-taken-init : goal.loop-taken-init
 loop-taken-init c =
     let met = c.requires.two.meeting.met c.requires.reached in
-    carry_init c.args.residual.now c.args._potentials.now c.arcs-arcs.ensures.bounds c.requires.shown c.args.source.now.labels.items c.args.destination.now.labels.items c.args.destination.now.parents.items c.requires.two.back c.args.found.radius (c.args.found.best - c.args.found.radius) c.args.found.best c.requires.met c.args.source.now.parents.items c.args.found.node c.requires.two.tree met.0 met.1 c.requires.reached
+    carry_init c.args.residual.now c.args._potentials.now c.arcs-arcs.ensures.bounds c.requires.shown c.args.source.now.labels c.args.destination.now.labels c.args.destination.now.parents.items c.requires.two.back c.args.found.radius (c.args.found.best - c.args.found.radius) c.args.found.best c.requires.met c.args.source.now.parents.items c.args.found.node c.requires.two.tree met.0 met.1 c.requires.reached
 
 pub returns-then-node-end-clause-carried : goal.returns-then-node-end-clause-carried
 returns-then-node-end-clause-carried c =
     let so = c.loop-taken.invariant in
     let short = so.short in
-    let f = ap (slice_index c.loop-taken.source.labels.items) (c.if-node-end.true ∙ c.requires.end) in
+    let f = ap (slice_index c.loop-taken.source.labels) (c.if-node-end.true ∙ c.requires.end) in
     record {
-      before = c.args.source.now.labels.items;
+      before = c.args.source.now.labels;
       met = c.requires.met;
       kept = so.kept;
       tree = so.tree;
@@ -38,13 +37,13 @@ bounds-arcs-step c =
     let residual = c.args.residual.now in
     let p = c.args._potentials.now in
     let ok = c.arcs-arcs.ensures.bounds in
-    let e = c.args.destination.now.labels.items in
+    let e = c.args.destination.now.labels in
     let backs = c.args.destination.now.parents.items in
     let u = c.loop-taken.node in
     let f = c.args.found in
     let so = c.loop-taken.invariant in
     let ne = λ (x : u ≡ residual.net.destination). c.if-node-end.false (x ∙ sym c.requires.end) in
-    let way = carry_way residual p ok c.requires.shown c.args.source.now.labels.items e backs c.requires.two.back f.radius (f.best - f.radius) f.best c.requires.met c.loop-taken.source.labels.items c.loop-taken.source.parents.items c.loop-taken.taken u so ne in
+    let way = carry_way residual p ok c.requires.shown c.args.source.now.labels e backs c.requires.two.back f.radius (f.best - f.radius) f.best c.requires.met c.loop-taken.source.labels c.loop-taken.source.parents.items c.loop-taken.taken u so ne in
     let inside = so.inside in
     let long = c.requires.two.back.as_long in
     let step : c.index-step.result.now ≡ parent_of backs u = c.index-step.ensures ∙ get_or-any backs u c.index-step.result.now (0, false) (omega (arith, inside, long)) in
@@ -58,20 +57,20 @@ overflow_sub-label c =
     let residual = c.args.residual.now in
     let p = c.args._potentials.now in
     let ok = c.arcs-arcs.ensures.bounds in
-    let e = c.args.destination.now.labels.items in
+    let e = c.args.destination.now.labels in
     let backs = c.args.destination.now.parents.items in
     let u = c.loop-taken.node in
     let f = c.args.found in
     let so = c.loop-taken.invariant in
     let ne = λ (x : u ≡ residual.net.destination). c.if-node-end.false (x ∙ sym c.requires.end) in
-    let way = carry_way residual p ok c.requires.shown c.args.source.now.labels.items e backs c.requires.two.back f.radius (f.best - f.radius) f.best c.requires.met c.loop-taken.source.labels.items c.loop-taken.source.parents.items c.loop-taken.taken u so ne in
+    let way = carry_way residual p ok c.requires.shown c.args.source.now.labels e backs c.requires.two.back f.radius (f.best - f.radius) f.best c.requires.met c.loop-taken.source.labels c.loop-taken.source.parents.items c.loop-taken.taken u so ne in
     let inside = so.inside in
     let long = c.requires.two.back.as_long in
     let step : c.index-step.result.now ≡ parent_of backs u = c.index-step.ensures ∙ get_or-any backs u c.index-step.result.now (0, false) (omega (arith, inside, long)) in
     let next : c.head_of-next.result ≡ head_of (arc_at residual.net.arcs (parent_of backs u).0) (parent_of backs u).1 = c.head_of-next.ensures ∙ ap (λ (xs : List Arc). head_of (arc_at xs c.index-step.result.now.0) c.index-step.result.now.1) c.arcs-arcs.ensures.value ∙ ap (λ (s : ℕ × Bool). head_of (arc_at residual.net.arcs s.0) s.1) step in
     let back_long = c.requires.two.back.long in
     let in_next = way.1 in
-    let label : c.index.result.now ≡ slice_index e (head_of (arc_at residual.net.arcs (parent_of backs u).0) (parent_of backs u).1) = c.index.ensures ∙ ap (λ v. slice_index_or e v c.index.result.now) next ∙ get_or_default_zero e (head_of (arc_at residual.net.arcs (parent_of backs u).0) (parent_of backs u).1) c.index.result.now (omega (arith, in_next, back_long)) in
+    let label : c.get.result ≡ slice_index e (head_of (arc_at residual.net.arcs (parent_of backs u).0) (parent_of backs u).1) = c.get.ensures ∙ ap (λ v. slice_index e v) next in
     let le = way.2 in
     omega (arith, le, label)
 
@@ -80,20 +79,20 @@ lower_end-lower-requires-clause-node c =
     let residual = c.args.residual.now in
     let p = c.args._potentials.now in
     let ok = c.arcs-arcs.ensures.bounds in
-    let e = c.args.destination.now.labels.items in
+    let e = c.args.destination.now.labels in
     let backs = c.args.destination.now.parents.items in
     let u = c.loop-taken.node in
     let f = c.args.found in
     let so = c.loop-taken.invariant in
     let ne = λ (x : u ≡ residual.net.destination). c.if-node-end.false (x ∙ sym c.requires.end) in
-    let way = carry_way residual p ok c.requires.shown c.args.source.now.labels.items e backs c.requires.two.back f.radius (f.best - f.radius) f.best c.requires.met c.loop-taken.source.labels.items c.loop-taken.source.parents.items c.loop-taken.taken u so ne in
+    let way = carry_way residual p ok c.requires.shown c.args.source.now.labels e backs c.requires.two.back f.radius (f.best - f.radius) f.best c.requires.met c.loop-taken.source.labels c.loop-taken.source.parents.items c.loop-taken.taken u so ne in
     let inside = so.inside in
     let long = c.requires.two.back.as_long in
     let step : c.index-step.result.now ≡ parent_of backs u = c.index-step.ensures ∙ get_or-any backs u c.index-step.result.now (0, false) (omega (arith, inside, long)) in
     let next : c.head_of-next.result ≡ head_of (arc_at residual.net.arcs (parent_of backs u).0) (parent_of backs u).1 = c.head_of-next.ensures ∙ ap (λ (xs : List Arc). head_of (arc_at xs c.index-step.result.now.0) c.index-step.result.now.1) c.arcs-arcs.ensures.value ∙ ap (λ (s : ℕ × Bool). head_of (arc_at residual.net.arcs s.0) s.1) step in
     let back_long = c.requires.two.back.long in
     let in_next = way.1 in
-    let label : c.index.result.now ≡ slice_index e (head_of (arc_at residual.net.arcs (parent_of backs u).0) (parent_of backs u).1) = c.index.ensures ∙ ap (λ v. slice_index_or e v c.index.result.now) next ∙ get_or_default_zero e (head_of (arc_at residual.net.arcs (parent_of backs u).0) (parent_of backs u).1) c.index.result.now (omega (arith, in_next, back_long)) in
+    let label : c.get.result ≡ slice_index e (head_of (arc_at residual.net.arcs (parent_of backs u).0) (parent_of backs u).1) = c.get.ensures ∙ ap (λ v. slice_index e v) next in
     let n = so.tree.long in
     omega (arith, in_next, next, n)
 
@@ -102,20 +101,20 @@ lower_end-lower-requires-clause-parents c =
     let residual = c.args.residual.now in
     let p = c.args._potentials.now in
     let ok = c.arcs-arcs.ensures.bounds in
-    let e = c.args.destination.now.labels.items in
+    let e = c.args.destination.now.labels in
     let backs = c.args.destination.now.parents.items in
     let u = c.loop-taken.node in
     let f = c.args.found in
     let so = c.loop-taken.invariant in
     let ne = λ (x : u ≡ residual.net.destination). c.if-node-end.false (x ∙ sym c.requires.end) in
-    let way = carry_way residual p ok c.requires.shown c.args.source.now.labels.items e backs c.requires.two.back f.radius (f.best - f.radius) f.best c.requires.met c.loop-taken.source.labels.items c.loop-taken.source.parents.items c.loop-taken.taken u so ne in
+    let way = carry_way residual p ok c.requires.shown c.args.source.now.labels e backs c.requires.two.back f.radius (f.best - f.radius) f.best c.requires.met c.loop-taken.source.labels c.loop-taken.source.parents.items c.loop-taken.taken u so ne in
     let inside = so.inside in
     let long = c.requires.two.back.as_long in
     let step : c.index-step.result.now ≡ parent_of backs u = c.index-step.ensures ∙ get_or-any backs u c.index-step.result.now (0, false) (omega (arith, inside, long)) in
     let next : c.head_of-next.result ≡ head_of (arc_at residual.net.arcs (parent_of backs u).0) (parent_of backs u).1 = c.head_of-next.ensures ∙ ap (λ (xs : List Arc). head_of (arc_at xs c.index-step.result.now.0) c.index-step.result.now.1) c.arcs-arcs.ensures.value ∙ ap (λ (s : ℕ × Bool). head_of (arc_at residual.net.arcs s.0) s.1) step in
     let back_long = c.requires.two.back.long in
     let in_next = way.1 in
-    let label : c.index.result.now ≡ slice_index e (head_of (arc_at residual.net.arcs (parent_of backs u).0) (parent_of backs u).1) = c.index.ensures ∙ ap (λ v. slice_index_or e v c.index.result.now) next ∙ get_or_default_zero e (head_of (arc_at residual.net.arcs (parent_of backs u).0) (parent_of backs u).1) c.index.result.now (omega (arith, in_next, back_long)) in
+    let label : c.get.result ≡ slice_index e (head_of (arc_at residual.net.arcs (parent_of backs u).0) (parent_of backs u).1) = c.get.ensures ∙ ap (λ v. slice_index e v) next in
     let n = so.tree.as_long in
     omega (arith, in_next, next, n)
 
@@ -124,29 +123,29 @@ loop-taken-preserved c =
     let residual = c.args.residual.now in
     let p = c.args._potentials.now in
     let ok = c.arcs-arcs.ensures.bounds in
-    let e = c.args.destination.now.labels.items in
+    let e = c.args.destination.now.labels in
     let backs = c.args.destination.now.parents.items in
     let u = c.loop-taken.node in
     let f = c.args.found in
     let so = c.loop-taken.invariant in
     let ne = λ (x : u ≡ residual.net.destination). c.if-node-end.false (x ∙ sym c.requires.end) in
-    let way = carry_way residual p ok c.requires.shown c.args.source.now.labels.items e backs c.requires.two.back f.radius (f.best - f.radius) f.best c.requires.met c.loop-taken.source.labels.items c.loop-taken.source.parents.items c.loop-taken.taken u so ne in
+    let way = carry_way residual p ok c.requires.shown c.args.source.now.labels e backs c.requires.two.back f.radius (f.best - f.radius) f.best c.requires.met c.loop-taken.source.labels c.loop-taken.source.parents.items c.loop-taken.taken u so ne in
     let inside = so.inside in
     let long = c.requires.two.back.as_long in
     let step : c.index-step.result.now ≡ parent_of backs u = c.index-step.ensures ∙ get_or-any backs u c.index-step.result.now (0, false) (omega (arith, inside, long)) in
     let next : c.head_of-next.result ≡ head_of (arc_at residual.net.arcs (parent_of backs u).0) (parent_of backs u).1 = c.head_of-next.ensures ∙ ap (λ (xs : List Arc). head_of (arc_at xs c.index-step.result.now.0) c.index-step.result.now.1) c.arcs-arcs.ensures.value ∙ ap (λ (s : ℕ × Bool). head_of (arc_at residual.net.arcs s.0) s.1) step in
     let back_long = c.requires.two.back.long in
     let in_next = way.1 in
-    let label : c.index.result.now ≡ slice_index e (head_of (arc_at residual.net.arcs (parent_of backs u).0) (parent_of backs u).1) = c.index.ensures ∙ ap (λ v. slice_index_or e v c.index.result.now) next ∙ get_or_default_zero e (head_of (arc_at residual.net.arcs (parent_of backs u).0) (parent_of backs u).1) c.index.result.now (omega (arith, in_next, back_long)) in
+    let label : c.get.result ≡ slice_index e (head_of (arc_at residual.net.arcs (parent_of backs u).0) (parent_of backs u).1) = c.get.ensures ∙ ap (λ v. slice_index e v) next in
     let w = head_of (arc_at residual.net.arcs (parent_of backs u).0) (parent_of backs u).1 in
     let after = c.lower_end-lower.ensures in
-    let labels = c.loop-taken.source.labels.items in
-    let made = f.best - c.index.result.now in
+    let labels = c.loop-taken.source.labels in
+    let made = f.best - c.get.result in
     let new = c.lower_end-lower.new.side in
-    let it = carry_turn residual p ok c.requires.shown c.args.source.now.labels.items e backs c.requires.two.back f.radius (f.best - f.radius) f.best c.requires.met labels c.loop-taken.source.parents.items c.loop-taken.taken u so ne new.labels.items new.parents.items c.lower_end-lower.result made (ap (λ x. f.best - x) label)
+    let it = carry_turn residual p ok c.requires.shown c.args.source.now.labels e backs c.requires.two.back f.radius (f.best - f.radius) f.best c.requires.met labels c.loop-taken.source.parents.items c.loop-taken.taken u so ne new.labels new.parents.items c.lower_end-lower.result made (ap (λ x. f.best - x) label)
     (λ t. let h = after.lower t in subst (λ v. made < slice_index labels v) next h)
     (λ t. after.labels t ∙ ap (λ v. set labels v made) next)
     (λ t. after.parents t ∙ ap (λ v. set c.loop-taken.source.parents.items v c.index-step.result.now) next ∙ ap (λ s. set c.loop-taken.source.parents.items w s) step)
     (λ t. let h = after.relaxed t in subst (λ v. min (slice_index labels v) UNREACHED ≤ made) next h)
     after.same after.kept in
-    subst (λ v. IsCarried residual p c.args.source.now.labels.items new.labels.items new.parents.items e backs f.radius f.best (c.loop-taken.taken + 1) v) (sym next) it
+    subst (λ v. IsCarried residual p c.args.source.now.labels new.labels new.parents.items e backs f.radius f.best (c.loop-taken.taken + 1) v) (sym next) it

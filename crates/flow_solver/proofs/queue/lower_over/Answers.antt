@@ -1,6 +1,5 @@
 use Rattle.std.proofs.Common.{true, false, arith, refl, ap, sym, subst, ◌∙◌, ◌≡◌, ◌<◌, ◌+◌, length}
 use Rattle.std.specs.Prelude.{slice_index, set, IsTrue}
-use Rattle.std.proofs.lemmas.Grind.{get_or_default_zero}
 use Rattle.flow_solver.specs.Search.{IsRelaxedTo}
 use Rattle.flow_solver.specs.Turned.{seen, seen_potentials}
 use Rattle.flow_solver.proofs.Answers.{all_small}
@@ -25,7 +24,7 @@ overflow_add-label c =
     let ok = c.arcs-arcs.ensures.bounds in
     let R = seen t residual in
     let q = seen_potentials t p in
-    let labels = c.args.side.now.labels.items in
+    let labels = c.args.side.now.labels in
     let near = c.ends_of-near.result.0 in
     let far = c.ends_of-near.result.1 in
     let cost = c.cost_of_next.result in
@@ -34,7 +33,7 @@ overflow_add-label c =
     let near_l = near_in residual p ok c.requires.shown c.requires.bounded t s c.requires.step near c.ends_of-near.ensures.near in
     let n = c.requires.tree.long in
     let m = seen_nodes t residual in
-    let label : c.index.result.now ≡ slice_index labels near = c.index.ensures ∙ get_or_default_zero labels near c.index.result.now (omega (arith, near_l, n, m)) in
+    let label : c.get.result ≡ slice_index labels near = c.get.ensures in
     let most = seen_most residual p ok c.requires.shown c.requires.bounded t s c.requires.step in
     let fits = label_fits R q (seen_ok t residual ok) (seen_shown t residual p ok c.requires.shown) labels c.args.side.now.parents.items c.requires.tree s.arc s.back next.known next.way near cost cost_at most in
     omega (arith, fits, label)
@@ -48,7 +47,7 @@ returns-then-lower_end-clause-tree c =
     let ok = c.arcs-arcs.ensures.bounds in
     let R = seen t residual in
     let q = seen_potentials t p in
-    let labels = c.args.side.now.labels.items in
+    let labels = c.args.side.now.labels in
     let near = c.ends_of-near.result.0 in
     let far = c.ends_of-near.result.1 in
     let cost = c.cost_of_next.result in
@@ -57,10 +56,10 @@ returns-then-lower_end-clause-tree c =
     let near_l = near_in residual p ok c.requires.shown c.requires.bounded t s c.requires.step near c.ends_of-near.ensures.near in
     let n = c.requires.tree.long in
     let m = seen_nodes t residual in
-    let label : c.index.result.now ≡ slice_index labels near = c.index.ensures ∙ get_or_default_zero labels near c.index.result.now (omega (arith, near_l, n, m)) in
+    let label : c.get.result ≡ slice_index labels near = c.get.ensures in
     let near_at = c.ends_of-near.ensures.near ∙ near_is residual p ok c.requires.shown c.requires.bounded t s c.requires.step in
     let far_at = c.ends_of-near.ensures.far ∙ far_is residual p ok c.requires.shown c.requires.bounded t s c.requires.step in
-    let sum : c.index.result.now + cost ≡ slice_index labels near + cost = ap (λ x. x + cost) label in
+    let sum : c.get.result + cost ≡ slice_index labels near + cost = ap (λ x. x + cost) label in
     let lower = λ (e : IsTrue true). subst (λ x. x < slice_index labels far) sum (c.if-lower_end.ensures.lower e) in
     let made = λ (e : IsTrue true). c.if-lower_end.ensures.labels e ∙ ap (λ x. set labels far x) sum in
     tried R q (seen_ok t residual ok) (seen_shown t residual p ok c.requires.shown) labels c.args.side.now.parents.items c.requires.tree s.arc s.back next.known next.way near far cost true _ _ near_at far_at cost_at lower made c.if-lower_end.ensures.parents c.if-lower_end.ensures.same c.if-lower_end.ensures.kept
@@ -74,7 +73,7 @@ returns-then-lower_end-clause-relaxed c =
     let ok = c.arcs-arcs.ensures.bounds in
     let R = seen t residual in
     let q = seen_potentials t p in
-    let labels = c.args.side.now.labels.items in
+    let labels = c.args.side.now.labels in
     let near = c.ends_of-near.result.0 in
     let far = c.ends_of-near.result.1 in
     let cost = c.cost_of_next.result in
@@ -83,17 +82,17 @@ returns-then-lower_end-clause-relaxed c =
     let near_l = near_in residual p ok c.requires.shown c.requires.bounded t s c.requires.step near c.ends_of-near.ensures.near in
     let n = c.requires.tree.long in
     let m = seen_nodes t residual in
-    let label : c.index.result.now ≡ slice_index labels near = c.index.ensures ∙ get_or_default_zero labels near c.index.result.now (omega (arith, near_l, n, m)) in
+    let label : c.get.result ≡ slice_index labels near = c.get.ensures in
     let near_at = c.ends_of-near.ensures.near ∙ near_is residual p ok c.requires.shown c.requires.bounded t s c.requires.step in
     let far_at = c.ends_of-near.ensures.far ∙ far_is residual p ok c.requires.shown c.requires.bounded t s c.requires.step in
-    let sum : c.index.result.now + cost ≡ slice_index labels near + cost = ap (λ x. x + cost) label in
+    let sum : c.get.result + cost ≡ slice_index labels near + cost = ap (λ x. x + cost) label in
     let lower = λ (e : IsTrue true). subst (λ x. x < slice_index labels far) sum (c.if-lower_end.ensures.lower e) in
     let made = λ (e : IsTrue true). c.if-lower_end.ensures.labels e ∙ ap (λ x. set labels far x) sum in
-    let so = tried_lower R q labels c.lower_end.new.side.labels.items s.arc near far cost s.back true near_at far_at cost_at lower made refl in
+    let so = tried_lower R q labels c.lower_end.new.side.labels s.arc near far cost s.back true near_at far_at cost_at lower made refl in
     let low = step_low R q (seen_ok t residual ok) (seen_shown t residual p ok c.requires.shown) labels c.args.side.now.parents.items c.requires.tree s.arc s.back next.known next.way in
     let far_l = far_in residual p ok c.requires.shown c.requires.bounded t s c.requires.step far c.ends_of-near.ensures.far in
     let l = subst (λ w. w < length labels) far_at (let k : far < length labels = omega (arith, far_l, n, m) in k) in
-    let facts = lowered_step R q labels c.lower_end.new.side.labels.items s.arc so.0 s.back low l so.1 in
+    let facts = lowered_step R q labels c.lower_end.new.side.labels s.arc so.0 s.back low l so.1 in
     facts.2 c.args.bound
 
 pub returns-then-lower_end-clause-tail : goal.returns-then-lower_end-clause-tail
@@ -105,7 +104,7 @@ returns-then-lower_end-clause-tail c =
     let ok = c.arcs-arcs.ensures.bounds in
     let R = seen t residual in
     let q = seen_potentials t p in
-    let labels = c.args.side.now.labels.items in
+    let labels = c.args.side.now.labels in
     let near = c.ends_of-near.result.0 in
     let far = c.ends_of-near.result.1 in
     let cost = c.cost_of_next.result in
@@ -114,17 +113,17 @@ returns-then-lower_end-clause-tail c =
     let near_l = near_in residual p ok c.requires.shown c.requires.bounded t s c.requires.step near c.ends_of-near.ensures.near in
     let n = c.requires.tree.long in
     let m = seen_nodes t residual in
-    let label : c.index.result.now ≡ slice_index labels near = c.index.ensures ∙ get_or_default_zero labels near c.index.result.now (omega (arith, near_l, n, m)) in
+    let label : c.get.result ≡ slice_index labels near = c.get.ensures in
     let near_at = c.ends_of-near.ensures.near ∙ near_is residual p ok c.requires.shown c.requires.bounded t s c.requires.step in
     let far_at = c.ends_of-near.ensures.far ∙ far_is residual p ok c.requires.shown c.requires.bounded t s c.requires.step in
-    let sum : c.index.result.now + cost ≡ slice_index labels near + cost = ap (λ x. x + cost) label in
+    let sum : c.get.result + cost ≡ slice_index labels near + cost = ap (λ x. x + cost) label in
     let lower = λ (e : IsTrue true). subst (λ x. x < slice_index labels far) sum (c.if-lower_end.ensures.lower e) in
     let made = λ (e : IsTrue true). c.if-lower_end.ensures.labels e ∙ ap (λ x. set labels far x) sum in
-    let so = tried_lower R q labels c.lower_end.new.side.labels.items s.arc near far cost s.back true near_at far_at cost_at lower made refl in
+    let so = tried_lower R q labels c.lower_end.new.side.labels s.arc near far cost s.back true near_at far_at cost_at lower made refl in
     let low = step_low R q (seen_ok t residual ok) (seen_shown t residual p ok c.requires.shown) labels c.args.side.now.parents.items c.requires.tree s.arc s.back next.known next.way in
     let far_l = far_in residual p ok c.requires.shown c.requires.bounded t s c.requires.step far c.ends_of-near.ensures.far in
     let l = subst (λ w. w < length labels) far_at (let k : far < length labels = omega (arith, far_l, n, m) in k) in
-    let facts = lowered_step R q labels c.lower_end.new.side.labels.items s.arc so.0 s.back low l so.1 in
+    let facts = lowered_step R q labels c.lower_end.new.side.labels s.arc so.0 s.back low l so.1 in
     facts.0
 
 pub returns-else-lower_end-clause-relaxed : goal.returns-else-lower_end-clause-relaxed
@@ -136,7 +135,7 @@ returns-else-lower_end-clause-relaxed c =
     let ok = c.arcs-arcs.ensures.bounds in
     let R = seen t residual in
     let q = seen_potentials t p in
-    let labels = c.args.side.now.labels.items in
+    let labels = c.args.side.now.labels in
     let near = c.ends_of-near.result.0 in
     let far = c.ends_of-near.result.1 in
     let cost = c.cost_of_next.result in
@@ -145,7 +144,7 @@ returns-else-lower_end-clause-relaxed c =
     let near_l = near_in residual p ok c.requires.shown c.requires.bounded t s c.requires.step near c.ends_of-near.ensures.near in
     let n = c.requires.tree.long in
     let m = seen_nodes t residual in
-    let label : c.index.result.now ≡ slice_index labels near = c.index.ensures ∙ get_or_default_zero labels near c.index.result.now (omega (arith, near_l, n, m)) in
+    let label : c.get.result ≡ slice_index labels near = c.get.ensures in
     let near_at = c.ends_of-near.ensures.near ∙ near_is residual p ok c.requires.shown c.requires.bounded t s c.requires.step in
     let far_at = c.ends_of-near.ensures.far ∙ far_is residual p ok c.requires.shown c.requires.bounded t s c.requires.step in
     let relaxed = tried_relaxed R q labels s.arc near far cost c.args.bound s.back false near_at far_at cost_at (λ e. let h = c.if-lower_end.ensures.relaxed e in omega (arith, h, label)) refl in

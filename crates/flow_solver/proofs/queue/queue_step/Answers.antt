@@ -3,7 +3,6 @@ use Rattle.std.specs.Prelude.{slice_index, min, nat_lt}
 use Rattle.std.specs.List.Sorted.{IsPermutation}
 use Rattle.std.specs.BinaryHeap.{KeepsHeap}
 use Rattle.std.specs.Ordering.{nat_cmp}
-use Rattle.std.proofs.lemmas.Grind.{get_or_default_zero}
 use Rattle.std.proofs.lemmas.Int.{ints}
 use Rattle.flow_solver.proofs.Turned.{seen_nodes}
 use Rattle.flow_solver.proofs.Queues.{grows_lowered}
@@ -12,17 +11,17 @@ use Rattle.flow_solver.proofs.queue.queue_step.Goals as goal
 
 pub returns-in_ok-push-in-Some-clause-meeting : goal.returns-in_ok-push-in-Some-clause-meeting
 returns-in_ok-push-in-Some-clause-meeting c =
-    let labels = c.args.side.now.labels.items in
+    let labels = c.args.side.now.labels in
     let far = c.in-Some.node in
-    let other = c.args.other.now.labels.items in
+    let other = c.args.other.now.labels in
     let label = c.in-Some.label in
     let n = c.requires.tree.long in
     let m = seen_nodes c.args.turned c.args.residual.now in
     let l = c.in-Some.ensures.node in
     let o = c.requires.other in
-    let at : c.index.result.now ≡ slice_index other far = c.index.ensures ∙ get_or_default_zero other far c.index.result.now (omega (arith, l, o)) in
-    let sum : label + c.index.result.now ≡ label + slice_index other far = ap (λ x. label + x) at in
-    meeting_lowered c.args.residual.now.net.nodes labels c.lower_over.new.side.labels.items other c.args.meeting.best c.args.meeting.node far label c.better.result.best c.better.result.node
+    let at : c.get.result ≡ slice_index other far = c.get.ensures in
+    let sum : label + c.get.result ≡ label + slice_index other far = ap (λ x. label + x) at in
+    meeting_lowered c.args.residual.now.net.nodes labels c.lower_over.new.side.labels other c.args.meeting.best c.args.meeting.node far label c.better.result.best c.better.result.node
     (omega (arith, l, n, m)) (n ∙ m) c.in-Some.ensures.lower c.in-Some.ensures.labels
     (c.better.ensures.best ∙ ap (λ x. min c.args.meeting.best x) sum)
     (c.better.ensures.node ∙ ap (λ x. cond (nat_lt x c.args.meeting.best) far c.args.meeting.node) sum)
@@ -35,7 +34,7 @@ returns-in_ok-push-in-Some-clause-progress c =
     let m = seen_nodes c.args.turned c.args.residual.now in
     let l = c.in-Some.ensures.node in
     let heap = c.in-Some.ensures.heap in
-    grows_lowered c.args.side.now.labels.items (heap_items c.args.side.now.heap) c.lower_over.new.side.labels.items (heap_items c.push.new.self) far c.in-Some.label c.key_of.result (omega (arith, l, n, m)) c.in-Some.ensures.lower c.in-Some.ensures.labels c.key_of.ensures
+    grows_lowered c.args.side.now.labels (heap_items c.args.side.now.heap) c.lower_over.new.side.labels (heap_items c.push.new.self) far c.in-Some.label c.key_of.result (omega (arith, l, n, m)) c.in-Some.ensures.lower c.in-Some.ensures.labels c.key_of.ensures
     (subst (λ ks. IsPermutation (c.key_of.result ∷ ks) (heap_items c.push.new.self)) heap c.in_ok-push-in-Some.ensures.permutation)
     (subst (λ ks. KeepsHeap nat_cmp ks (heap_items c.push.new.self)) heap c.in_ok-push-in-Some.ensures.heap_order)
 

@@ -23,29 +23,28 @@ meet-requires-clause-two c =
     let t = c.destination-end.ensures ∙ ap (λ (n : Net). n.destination) net in
     let near = c.in_ok-begin.ensures in
     let far = c.in_ok-begin-2.ensures in
-    let nodes = c.nodes-nodes.ensures.value in
-    let labels = near.labels ∙ ap (λ n. set (replicate n UNREACHED) c.source.result 0) nodes ∙ ap (λ (n : Net). set (replicate n.nodes UNREACHED) c.source.result 0) net ∙ ap (λ v. set (replicate residual.net.nodes UNREACHED) v 0) s in
-    let others = far.labels ∙ ap (λ n. set (replicate n UNREACHED) c.destination-end.result 0) nodes ∙ ap (λ (n : Net). set (replicate n.nodes UNREACHED) c.destination-end.result 0) net ∙ ap (λ v. set (replicate residual.net.nodes UNREACHED) v 0) t in
-    let tree = first_tree residual p c.begin.new.side.labels.items c.begin.new.side.parents.items ok labels (ap (length {A = ℕ × Bool}) near.parents ∙ c.requires.fits.source_long) in
-    let back = first_tree (turned residual) (against p) c.begin-2.new.side.labels.items c.begin-2.new.side.parents.items (turned_ok residual ok) others (ap (length {A = ℕ × Bool}) far.parents ∙ c.requires.fits.destination_long) in
+    let labels = near.labels ∙ ap (λ n. set (replicate n UNREACHED) c.source.result 0) c.requires.fits.source_labels ∙ ap (λ v. set (replicate residual.net.nodes UNREACHED) v 0) s in
+    let others = far.labels ∙ ap (λ n. set (replicate n UNREACHED) c.destination-end.result 0) c.requires.fits.destination_labels ∙ ap (λ v. set (replicate residual.net.nodes UNREACHED) v 0) t in
+    let tree = first_tree residual p c.begin.new.side.labels c.begin.new.side.parents.items ok labels (ap (length {A = ℕ × Bool}) near.parents ∙ c.requires.fits.source_long) in
+    let back = first_tree (turned residual) (against p) c.begin-2.new.side.labels c.begin-2.new.side.parents.items (turned_ok residual ok) others (ap (length {A = ℕ × Bool}) far.parents ∙ c.requires.fits.destination_long) in
     record {
       tree = tree;
       heap = near.heap;
-      queue = first_queue residual p c.begin.new.side.labels.items (heap_items c.begin.new.side.heap) c.begin.new.side.parents.items (key_of 0 c.source.result) UNREACHED ends.source_in labels tree (ap (key_of 0) s) near.queue;
+      queue = first_queue residual p c.begin.new.side.labels (heap_items c.begin.new.side.heap) c.begin.new.side.parents.items (key_of 0 c.source.result) UNREACHED ends.source_in labels tree (ap (key_of 0) s) near.queue;
       back = back;
       back_heap = far.heap;
-      back_queue = first_queue (turned residual) (against p) c.begin-2.new.side.labels.items (heap_items c.begin-2.new.side.heap) c.begin-2.new.side.parents.items (key_of 0 c.destination-end.result) UNREACHED ends.destination_in others back (ap (key_of 0) t) far.queue;
-      meeting = first_meeting residual.net.nodes residual.net.source residual.net.destination c.begin.new.side.labels.items c.begin-2.new.side.labels.items ends.source_in ends.destination_in ends.apart labels others;
+      back_queue = first_queue (turned residual) (against p) c.begin-2.new.side.labels (heap_items c.begin-2.new.side.heap) c.begin-2.new.side.parents.items (key_of 0 c.destination-end.result) UNREACHED ends.destination_in others back (ap (key_of 0) t) far.queue;
+      meeting = first_meeting residual.net.nodes residual.net.source residual.net.destination c.begin.new.side.labels c.begin-2.new.side.labels ends.source_in ends.destination_in ends.apart labels others;
     }
 
 pub returns-then-found-eq-UNREACHED-clause-cuts : goal.returns-then-found-eq-UNREACHED-clause-cuts
 returns-then-found-eq-UNREACHED-clause-cuts c =
     let found = c.in_ok-found.ensures in
-    let labels = c.meet.new.source.labels.items in
+    let labels = c.meet.new.source.labels in
     let parents = c.meet.new.source.parents.items in
     let state = c.requires.partial in
     let demand = ap (λ (n : Net). n.demand) c.requires.net in
     let less = c.requires.less in
-    let none = met_nowhere c.args.residual.now c.args.potentials.now labels c.meet.new.destination.labels.items parents c.in_ok-found.found.radius _ c.in_ok-found.found.best state.ok found.two.tree found.met c.if-found-eq-UNREACHED.true (found.whole c.if-found-eq-UNREACHED.true) in
-    let side = c.in_ok-side.ensures ∙ ap (map (λ label. nat_lt label UNREACHED)) c.deref.ensures.value in
+    let none = met_nowhere c.args.residual.now c.args.potentials.now labels c.meet.new.destination.labels parents c.in_ok-found.found.radius _ c.in_ok-found.found.best state.ok found.two.tree found.met c.if-found-eq-UNREACHED.true (found.whole c.if-found-eq-UNREACHED.true) in
+    let side = c.in_ok-side.ensures ∙ ap (map (λ label. nat_lt label UNREACHED)) c.list.ensures in
     subst (λ (n : Net). Cuts n c.in_ok-side.side.items) c.requires.net (reached_cut c.args.residual.now c.args.potentials.now c.args.sent labels parents c.in_ok-side.side.items state none.0 (omega (arith, less, demand)) none.1 side)
