@@ -1,4 +1,4 @@
-ghost use Rattle.std.specs.Prelude.{◌≡◌, ◌<◌, ◌≤◌, ◌+◌, ◌^◌, ◌+ℤ◌, ◌-ℤ◌, ◌≤ℤ◌, ℕ, pos, min, All, Bool, IfOk, IsFalse, IsTrue, length, slice_index, slice_index_or};
+ghost use Rattle.std.specs.Prelude.{◌≡◌, ◌<◌, ◌≤◌, ◌+◌, ◌^◌, ◌+ℤ◌, ◌≤ℤ◌, ℕ, pos, min, All, IfOk, length, slice_index, slice_index_or};
 ghost use Rattle.residual_net.specs.Residual.{HasRoomFor};
 ghost use Rattle.flow_solver.specs.declared.labels.TheConstants.{UNREACHED};
 ghost use Rattle.flow_solver.specs.Search.{HasDepth, IsPartialSolution, IsRaised, IsReachedNode, IsSearchResult, parent_path};

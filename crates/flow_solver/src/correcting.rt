@@ -1,4 +1,4 @@
-ghost use Rattle.std.specs.Prelude.{◌≡◌, ◌<◌, ◌≤◌, ℕ, Bool, IfOk, IsFalse, IsTrue, length};
+ghost use Rattle.std.specs.Prelude.{◌≡◌, ◌<◌, ℕ, Bool, IfOk, IsFalse, IsTrue, length};
 ghost use Rattle.residual_net.specs.Residual.{IsResidualNet};
 ghost use Rattle.flow_solver.specs.declared.labels.TheConstants.{UNREACHED};
 ghost use Rattle.flow_solver.specs.Search.{HasBoundedPotentials, IsFlowShown, IsNextOfDirection, IsRelaxedTo, IsSearchResult, IsSearchTree, IsSettledBelow, sum_of_labels};

@@ -1,5 +1,5 @@
 ghost use Rattle.std.specs.Prelude.{◌≡◌, ◌<◌, ◌≤◌, ◌^◌, All, IfOk, IsFalse, IsTrue, ◌+◌, length, replicate, slice_index};
-ghost use Rattle.flow_model.specs.Instance.{IsInstance, arc_at};
+ghost use Rattle.flow_model.specs.Instance.{arc_at};
 ghost use Rattle.flow_model.specs.Potentials.{IsSmall, reduced_cost};
 ghost use Rattle.residual_net.specs.Residual.{HasDistinctArcs, HasRoomFor, IsResidualNet, ResidualNet, flow_after, room_left, units_after};
 

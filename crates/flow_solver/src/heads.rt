@@ -1,5 +1,5 @@
 ghost use Rattle.std.specs.Prelude.{◌≡◌, ◌≢◌, ◌<◌, ◌≤◌, ◌+◌, ◌^◌, ℕ, true, false, IfNone, IfOk, IfSome, IsFalse, IsTrue, length, slice_index};
-ghost use Rattle.flow_model.specs.Instance.{IsInstance, StandTogether, arc_at};
+ghost use Rattle.flow_model.specs.Instance.{StandTogether, arc_at};
 ghost use Rattle.flow_solver.specs.Heads.{HasHeads, HasNoNext, IsHead, IsOnlyNext};
 ghost use Rattle.flow_solver.specs.Meeting.{IsStepOf};
 ghost use Rattle.flow_solver.specs.Search.{InOrder};

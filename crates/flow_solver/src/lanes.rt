@@ -1,9 +1,9 @@
-ghost use Rattle.std.specs.Prelude.{◌≡◌, ◌<◌, ◌≤◌, ◌+◌, ℕ, cond, true, false, drop, take, IfNone, IfOk, IfSome, OnOk, length, replicate, slice_index, slice_index_or};
+ghost use Rattle.std.specs.Prelude.{◌≡◌, ◌<◌, ◌≤◌, ℕ, cond, true, false, drop, take, IfNone, IfOk, IfSome, OnOk, length, replicate, slice_index, slice_index_or};
 ghost use Rattle.flow_model.specs.Instance.{arc_at};
 ghost use Rattle.residual_net.specs.Residual.{steps_out};
 ghost use Rattle.flow_solver.specs.Heads.{HasHeads, HasNoNext, IsOnlyNext};
 ghost use Rattle.flow_solver.specs.Lanes as words;
-ghost use Rattle.flow_solver.specs.Lanes.{FitsLanes, HasMadeRows, IsKnown, IsLaneOf, IsMade, IsMarked, IsMarkedAt, IsMarkedIn, IsMarkedOver, IsRowTo, first_of};
+ghost use Rattle.flow_solver.specs.Lanes.{FitsLanes, HasMadeRows, IsLaneOf, IsMade, IsMarked, IsMarkedAt, IsMarkedIn, IsMarkedOver, IsRowTo, first_of};
 ghost use Rattle.flow_solver.specs.Meeting.{IsStepOf};
 ghost use Rattle.flow_solver.specs.Search.{InOrder, head_of as head_node};
 

@@ -1,5 +1,4 @@
-ghost use Rattle.std.specs.Prelude.{◌≡◌, ◌<◌, ◌≤◌, ◌+◌, ◌-◌, ◌*◌, ◌^◌, ◌+ℤ◌, ◌≤ℤ◌, ℕ, pos, min, length, slice_index, slice_index_or};
-ghost use Rattle.flow_model.specs.declared.limits.TheConstants.{COST_MAX, NODES_MAX};
+ghost use Rattle.std.specs.Prelude.{◌≡◌, ◌<◌, ◌≤◌, ◌+◌, ◌-◌, ◌^◌, ◌+ℤ◌, ◌≤ℤ◌, ℕ, pos, min, length, slice_index, slice_index_or};
 ghost use Rattle.flow_solver.specs.declared.labels.TheConstants.{UNREACHED};
 ghost use Rattle.flow_solver.specs.Search.{IsFlowShown};
 ghost use Rattle.flow_solver.specs.Meeting.{IsCarriedOn, IsLifted, IsMet, lift as lift_of};

@@ -1,4 +1,4 @@
-ghost use Rattle.std.specs.Prelude.{◌≡◌, ◌<◌, ◌≤◌, ◌+◌, ◌^◌, ◌-ℤ◌, ◌≤ℤ◌, pos, min, ℕ, All, Bool, cond, not, IsFalse, IsTrue, length, set, slice_index};
+ghost use Rattle.std.specs.Prelude.{◌≡◌, ◌<◌, ◌≤◌, ◌+◌, ◌^◌, ◌≤ℤ◌, pos, min, ℕ, All, cond, not, IsFalse, IsTrue, length, set, slice_index};
 ghost use Rattle.flow_model.specs.Potentials.{IsSmall};
 ghost use Rattle.flow_model.specs.Instance.{arc_at};
 ghost use Rattle.flow_solver.specs.Search as words;
