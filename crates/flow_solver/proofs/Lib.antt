@@ -18,3 +18,4 @@ pub mod Seen
 pub mod Carried
 pub mod Sides
 pub mod Listed
+pub mod Rows

@@ -7,3 +7,4 @@ pub mod Augmented
 pub mod Heads
 pub mod Lanes
 pub mod NodeLabels
+pub mod NodePotentials

@@ -98,18 +98,29 @@ fn search_by_passes(
     Ok(tree)
 }
 
-impl Augment for Correcting {
+/// A search by passes over all arcs, with the potentials that show the flow so far.
+#[derive(Debug, Drop)]
+struct CorrectingSearch {
+    potentials: Vec<i128>,
+}
+
+impl Augment for CorrectingSearch {
     ghost fits = { λ s residual. Unit {0} };
+
+    ghost shown = { λ s. s.potentials.items };
+
+    fn potentials(&self, alloc: Global) -> Result<Vec<i128>, NoMemory> {
+        Ok(Vec::from_slice(alloc, &self.potentials)?)
+    }
 
     fn augment(
         &mut self,
         alloc: Global,
         instance: &Instance,
         residual: &mut FlowNet,
-        potentials: &mut [i128],
         sent: u64,
     ) -> Result<Augmented, NoMemory> {
-        let found = search_by_passes(alloc, instance, residual, potentials)?;
+        let found = search_by_passes(alloc, instance, residual, &self.potentials)?;
         if !is_reached(found.labels[instance.destination() as usize]) {
             let side = reached_nodes(alloc, &found.labels)?;
             return Ok(Augmented::Cut { side });
@@ -118,7 +129,7 @@ impl Augment for Correcting {
             alloc,
             instance,
             residual,
-            potentials,
+            &mut self.potentials,
             &found.labels,
             &found.parents,
             sent,
@@ -129,6 +140,7 @@ impl Augment for Correcting {
 
 impl Solve for Correcting {
     fn solve(&self, alloc: Global, instance: &Instance) -> Result<Solved, NoMemory> {
-        solve_by(&mut Correcting, alloc, instance)
+        let potentials = Vec::from_elem(alloc, 0, instance.nodes() as usize)?;
+        solve_by(&mut CorrectingSearch { potentials }, alloc, instance)
     }
 }

@@ -29,7 +29,8 @@ impl<'a> Model for FlowNet<'a> {
 impl<'a> FlowNet<'a> {
     /// The instance whose arcs carry nothing.
     pub(crate) fn open(alloc: Global, instance: &'a Instance) -> Result<FlowNet<'a>, NoMemory>
-        ensures { IfOk result (λ r. r ≡ record { net = instance.now; flow = replicate (length instance.now.arcs) 0 }) }
+        ensures value { IfOk result (λ r. r ≡ record { net = instance.now; flow = replicate (length instance.now.arcs) 0 }) }
+        ensures bounds { IfOk result (λ r. IsResidualNet r) }
     {
         let flow = Vec::from_elem(alloc, 0, instance.arcs().len())?;
         Ok(FlowNet { instance, flow })

@@ -3,14 +3,16 @@ ghost use Rattle.residual_net.specs.Residual.{HasDistinctArcs, HasRoomFor, flow_
 ghost use Rattle.flow_solver.specs.Lanes.{FitsLanes};
 ghost use Rattle.flow_solver.specs.Search.{IsPartialSolution};
 ghost use Rattle.flow_solver.specs.Meeting.{IsCarriedOn};
+ghost use Rattle.flow_solver.specs.TwoSided.{FitsSearch};
 
 use crate::advance::{least_room, walk};
 use crate::flow_net::FlowNet;
 use crate::heads::heads_of;
-use crate::labels::{UNREACHED, reached_nodes};
+use crate::labels::UNREACHED;
 use crate::lanes::{Lanes, mark, open_lanes};
-use crate::lift::{carry, lift};
+use crate::lift::carry;
 use crate::meeting::{Found, meet};
+use crate::node_potentials::{NodePotentials, no_potentials};
 use crate::side::{Side, begin, no_side};
 use crate::successive::{Augment, Augmented, solve_by};
 use flow_model::{Instance, Solve, Solved};
@@ -44,63 +46,63 @@ fn push_found(
     alloc: Global,
     instance: &Instance,
     residual: &mut FlowNet,
-    lanes: &mut Lanes,
-    potentials: &mut [i128],
-    source: &Side,
-    destination: &Side,
+    search: &mut KeepingSearch<'_>,
     found: Found,
     sent: u64,
 ) -> Result<u64, NoMemory>
     requires net { residual.old.net ≡ instance.now }
     requires less { sent < instance.now.demand }
-    requires partial { IsPartialSolution residual.old potentials.old sent }
-    requires lanes { FitsLanes residual.old lanes.old.heads.net lanes.old.starts.items lanes.old.lanes.items }
-    requires carried { IsCarriedOn residual.old potentials.old source.now.labels source.now.parents.items destination.now.labels found.radius found.best }
+    requires partial { IsPartialSolution residual.old search.old.potentials sent }
+    requires fits { FitsSearch residual.old search.old.lanes search.old.source search.old.destination }
+    requires carried { IsCarriedOn residual.old search.old.potentials search.old.source.labels search.old.source.parents.items search.old.destination.labels found.radius found.best }
     ensures more { IfOk result (λ n. sent < n) }
     ensures most { IfOk result (λ n. n ≤ instance.now.demand) }
-    ensures partial { IfOk result (λ n. IsPartialSolution residual.new potentials.new n) }
+    ensures partial { IfOk result (λ n. IsPartialSolution residual.new search.new.potentials n) }
     ensures net { IfOk result (λ n. residual.new.net ≡ residual.old.net) }
-    ensures lanes { IfOk result (λ n. FitsLanes residual.new lanes.new.heads.net lanes.new.starts.items lanes.new.lanes.items) }
+    ensures fits { IfOk result (λ n. FitsSearch residual.new search.new.lanes search.new.source search.new.destination) }
 {
     let path = walk(
         alloc,
         residual,
-        &source.parents,
+        &search.source.parents,
         instance.source(),
         instance.destination(),
     )?;
     let amount = least_room(residual, &path, instance.demand() - sent);
-    lift(
-        potentials,
-        source.labels.list(),
-        destination.labels.list(),
+    search.potentials.lift(
+        &mut search.source.labels,
+        &mut search.destination.labels,
         found.radius,
         found.best - found.radius,
-    );
-    push_on(residual, lanes, &path, amount);
+    )?;
+    push_on(residual, &mut search.lanes, &path, amount);
     Ok(sent + amount)
 }
 
-/// A search from both ends over an instance: the directions at the nodes that it has opened, and the two searches. They
-/// keep their memory from one augmentation to the next.
+/// A search from both ends over an instance: the directions at the nodes that it has opened, the two searches, and the
+/// potentials that show the flow so far. They keep their memory from one augmentation to the next.
 #[derive(Drop)]
 struct KeepingSearch<'a> {
     lanes: Lanes<'a>,
+    potentials: NodePotentials,
     source: Side,
     destination: Side,
 }
 
 impl<'a> Augment for KeepingSearch<'a> {
-    ghost use Rattle.flow_solver.specs.TwoSided.{FitsSearch};
-
     ghost fits = { λ s residual. FitsSearch residual s.lanes s.source s.destination };
+
+    ghost shown = { λ s. s.potentials };
+
+    fn potentials(&self, alloc: Global) -> Result<Vec<i128>, NoMemory> {
+        self.potentials.to_vec(alloc)
+    }
 
     fn augment(
         &mut self,
         alloc: Global,
         instance: &Instance,
         residual: &mut FlowNet,
-        potentials: &mut [i128],
         sent: u64,
     ) -> Result<Augmented, NoMemory> {
         let end = instance.destination();
@@ -110,34 +112,24 @@ impl<'a> Augment for KeepingSearch<'a> {
         let found = meet(
             residual,
             &mut self.lanes,
-            potentials,
+            &self.potentials,
             &mut self.source,
             &mut self.destination,
         )?;
         if found.best == UNREACHED {
-            let side = reached_nodes(alloc, self.source.labels.list())?;
+            let side = self.source.labels.reached(alloc)?;
             return Ok(Augmented::Cut { side });
         }
         carry(
             residual,
-            potentials,
+            &self.potentials,
             &mut self.source,
             &self.destination,
             found,
             end,
             nodes,
-        );
-        let units = push_found(
-            alloc,
-            instance,
-            residual,
-            &mut self.lanes,
-            potentials,
-            &self.source,
-            &self.destination,
-            found,
-            sent,
         )?;
+        let units = push_found(alloc, instance, residual, self, found, sent)?;
         Ok(Augmented::Sent { units })
     }
 }
@@ -147,6 +139,7 @@ impl Solve for Keeping {
         let firsts = heads_of(alloc, instance)?;
         let mut search = KeepingSearch {
             lanes: open_lanes(alloc, instance, &firsts)?,
+            potentials: no_potentials(alloc, instance.nodes())?,
             source: no_side(alloc, instance.nodes())?,
             destination: no_side(alloc, instance.nodes())?,
         };

@@ -12,6 +12,7 @@ mod lanes;
 mod lift;
 mod meeting;
 mod node_labels;
+mod node_potentials;
 mod queue;
 mod side;
 mod steps;

@@ -13,6 +13,7 @@ ghost use Rattle.flow_solver.specs.TwoSided.{IsTwoSided, size_of};
 use crate::flow_net::FlowNet;
 use crate::labels::UNREACHED;
 use crate::lanes::Lanes;
+use crate::node_potentials::NodePotentials;
 use crate::queue::{Meeting, expand};
 use crate::side::{Side, front};
 use plan_base::NoMemory;
@@ -55,7 +56,7 @@ fn radius_of(source: &Side, destination: &Side, best: u128) -> Option<u128>
 fn expand_one(
     residual: &FlowNet,
     lanes: &mut Lanes,
-    potentials: &[i128],
+    potentials: &NodePotentials,
     source: &mut Side,
     destination: &mut Side,
     meeting: Meeting,
@@ -107,7 +108,7 @@ fn expand_one(
 pub(crate) fn meet(
     residual: &FlowNet,
     lanes: &mut Lanes,
-    potentials: &[i128],
+    potentials: &NodePotentials,
     source: &mut Side,
     destination: &mut Side,
 ) -> Result<Found, NoMemory>

@@ -13,6 +13,7 @@ ghost use Rattle.flow_solver.specs.Meeting.{IsMeeting, IsStepOf, reduced_cost};
 
 use crate::flow_net::FlowNet;
 use crate::lanes::{Lane, Lanes, make_row, next_over, row_of};
+use crate::node_potentials::NodePotentials;
 use crate::side::{Side, key_of, lower_end, node_of};
 use crate::steps::{NextStep, flipped};
 use plan_base::NoMemory;
@@ -38,17 +39,19 @@ fn ends_of(step: NextStep, turned: bool) -> (u32, u32)
 }
 
 /// A cost, seen from the potentials of the ends of an arc.
-fn reduced(cost: u64, from: u32, to: u32, potentials: &[i128]) -> i128
+#[inline(always)]
+fn reduced(cost: u64, from: u32, to: u32, potentials: &NodePotentials) -> i128
     requires from { from < length potentials.now }
     requires to { to < length potentials.now }
     requires small { All IsSmall potentials.now }
     ensures { result ≡ pos cost +ℤ slice_index_or potentials.now from (pos 0) -ℤ slice_index_or potentials.now to (pos 0) }
 {
-    i128::from(cost) + potentials[from as usize] - potentials[to as usize]
+    i128::from(cost) + potentials.difference(from, to)
 }
 
 /// The reduced cost of a step, if it isn't below 0.
-fn cost_of_next(potentials: &[i128], step: NextStep) -> u128
+#[inline(always)]
+fn cost_of_next(potentials: &NodePotentials, step: NextStep) -> u128
     requires tail { step.tail < length potentials.now }
     requires head { step.head < length potentials.now }
     requires small { All IsSmall potentials.now }
@@ -78,41 +81,43 @@ fn better(meeting: Meeting, label: u128, other: u128, node: u32) -> Meeting
 
 /// Lowers the label of a step's far end, if the step gives it a lower one, and one below the bound. Then it returns the
 /// node and its label.
+#[inline(always)]
 fn lower_over(
     residual: &FlowNet,
-    potentials: &[i128],
+    potentials: &NodePotentials,
     side: &mut Side,
     step: NextStep,
     turned: bool,
     bound: u128,
-) -> Option<(u32, u128)>
+) -> Result<Option<(u32, u128)>, NoMemory>
     requires step { IsStepOf residual.now step }
     requires bounded { HasBoundedPotentials residual.now.net potentials.now }
     requires shown { IsFlowShown residual.now potentials.now }
     requires tree { IsSearchTree (seen turned residual.now) (seen_potentials turned potentials.now) side.old.labels side.old.parents.items }
-    ensures tree { IsSearchTree (seen turned residual.now) (seen_potentials turned potentials.now) side.new.labels side.new.parents.items }
-    ensures node { IfSome result (λ r. r.0 < residual.now.net.nodes) }
-    ensures lower { IfSome result (λ r. r.1 < slice_index side.old.labels r.0) }
-    ensures labels { IfSome result (λ r. side.new.labels ≡ set side.old.labels r.0 r.1) }
-    ensures same { IfNone result (side.new.labels ≡ side.old.labels) }
-    ensures relaxed { IsRelaxedTo (seen turned residual.now).net.arcs (seen_potentials turned potentials.now) side.new.labels bound step.arc step.back }
-    ensures tail { slice_index side.new.labels (words.tail_of (arc_at (seen turned residual.now).net.arcs step.arc) step.back) ≡ slice_index side.old.labels (words.tail_of (arc_at (seen turned residual.now).net.arcs step.arc) step.back) }
+    ensures tree { OnOk result (IsSearchTree (seen turned residual.now) (seen_potentials turned potentials.now) side.new.labels side.new.parents.items) }
+    ensures node { IfOk result (λ o. IfSome o (λ r. r.0 < residual.now.net.nodes)) }
+    ensures lower { IfOk result (λ o. IfSome o (λ r. r.1 < slice_index side.old.labels r.0)) }
+    ensures labels { IfOk result (λ o. IfSome o (λ r. side.new.labels ≡ set side.old.labels r.0 r.1)) }
+    ensures same { IfOk result (λ o. IfNone o (side.new.labels ≡ side.old.labels)) }
+    ensures relaxed { OnOk result (IsRelaxedTo (seen turned residual.now).net.arcs (seen_potentials turned potentials.now) side.new.labels bound step.arc step.back) }
+    ensures tail { OnOk result (slice_index side.new.labels (words.tail_of (arc_at (seen turned residual.now).net.arcs step.arc) step.back) ≡ slice_index side.old.labels (words.tail_of (arc_at (seen turned residual.now).net.arcs step.arc) step.back)) }
     ensures heap { heap_items side.new.heap ≡ heap_items side.old.heap }
 {
     let _arcs = residual.arcs();
     let (near, far) = ends_of(step, turned);
     let label = side.labels.get(near) + cost_of_next(potentials, step);
-    if lower_end(side, far, label, (step.arc, step.back), bound) {
-        Some((far, label))
+    if lower_end(side, far, label, (step.arc, step.back), bound)? {
+        Ok(Some((far, label)))
     } else {
-        None
+        Ok(None)
     }
 }
 
 /// Lowers the label of a step's far end, and puts its node into the queue if the label fell.
+#[inline(always)]
 fn queue_step(
     residual: &FlowNet,
-    potentials: &[i128],
+    potentials: &NodePotentials,
     side: &mut Side,
     other: &Side,
     step: NextStep,
@@ -134,7 +139,8 @@ fn queue_step(
     ensures tail { OnOk result (slice_index side.new.labels (words.tail_of (arc_at (seen turned residual.now).net.arcs step.arc) step.back) ≡ slice_index side.old.labels (words.tail_of (arc_at (seen turned residual.now).net.arcs step.arc) step.back)) }
 {
     let _nodes = residual.arcs();
-    match lower_over(residual, potentials, side, step, turned, meeting.best) {
+    let lowered = lower_over(residual, potentials, side, step, turned, meeting.best)?;
+    match lowered {
         None => Ok(meeting),
         Some((node, label)) => {
             side.heap.push(key_of(label, node))?;
@@ -147,7 +153,7 @@ fn queue_step(
 fn open_node(
     residual: &FlowNet,
     row: &[Lane],
-    potentials: &[i128],
+    potentials: &NodePotentials,
     side: &mut Side,
     other: &Side,
     node: u32,
@@ -182,7 +188,7 @@ fn open_node(
 pub(crate) fn expand(
     residual: &FlowNet,
     lanes: &mut Lanes,
-    potentials: &[i128],
+    potentials: &NodePotentials,
     side: &mut Side,
     other: &Side,
     turned: bool,
@@ -210,7 +216,7 @@ pub(crate) fn expand(
     let Some(key) = side.heap.pop() else {
         return Ok(meeting);
     };
-    let Some(node) = node_of(side.labels.list(), key) else {
+    let Some(node) = node_of(&side.labels, key) else {
         return Ok(meeting);
     };
     make_row(lanes, residual, node)?;

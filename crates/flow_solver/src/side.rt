@@ -48,7 +48,7 @@ pub(crate) fn begin(side: &mut Side, end: u32) -> Result<(), NoMemory>
     ensures queue { OnOk result (IsPermutation (queue.key_of 0 end ∷ []) (heap_items side.new.heap)) }
 {
     side.labels.clear();
-    side.labels.lower(end, 0);
+    side.labels.lower(end, 0)?;
     side.heap.clear();
     side.heap.push(key_of(0, end))?;
     side.work = 0;
@@ -66,7 +66,7 @@ pub(crate) fn key_of(label: u128, node: u32) -> u128
 }
 
 /// The node whose key this is. `None` if the key is outdated: its node's label has fallen since.
-pub(crate) fn node_of(labels: &[u128], key: u128) -> Option<u32>
+pub(crate) fn node_of(labels: &NodeLabels, key: u128) -> Option<u32>
     requires few { length labels.now ≤ NODES_MAX }
     requires most { (v : ℕ) → slice_index labels.now v ≤ UNREACHED }
     ensures inside { IfSome result (λ v. v < length labels.now) }
@@ -77,7 +77,7 @@ pub(crate) fn node_of(labels: &[u128], key: u128) -> Option<u32>
     if node as usize >= labels.len() {
         return None;
     }
-    if key != key_of(labels[node as usize], node) {
+    if key != key_of(labels.get(node), node) {
         return None;
     }
     Some(node)
@@ -97,30 +97,31 @@ pub(crate) fn front(side: &Side) -> u128
 }
 
 /// Gives a node this label and this step, if the label is lower than the node's, and below the bound.
+#[inline(always)]
 pub(crate) fn lower_end(
     side: &mut Side,
     node: u32,
     label: u128,
     step: (u32, bool),
     bound: u128,
-) -> bool
+) -> Result<bool, NoMemory>
     requires node { node < length side.old.labels }
     requires parents { node < length side.old.parents.items }
-    ensures lower { IsTrue result → label < slice_index side.old.labels node }
-    ensures labels { IsTrue result → side.new.labels ≡ set side.old.labels node label }
-    ensures parents { IsTrue result → side.new.parents.items ≡ set side.old.parents.items node step }
-    ensures relaxed { IsFalse result → min (slice_index side.old.labels node) bound ≤ label }
-    ensures same { IsFalse result → side.new.labels ≡ side.old.labels }
-    ensures kept { IsFalse result → side.new.parents.items ≡ side.old.parents.items }
+    ensures lower { IfOk result (λ r. IsTrue r → label < slice_index side.old.labels node) }
+    ensures labels { IfOk result (λ r. IsTrue r → side.new.labels ≡ set side.old.labels node label) }
+    ensures parents { IfOk result (λ r. IsTrue r → side.new.parents.items ≡ set side.old.parents.items node step) }
+    ensures relaxed { IfOk result (λ r. IsFalse r → min (slice_index side.old.labels node) bound ≤ label) }
+    ensures same { IfOk result (λ r. IsFalse r → side.new.labels ≡ side.old.labels) }
+    ensures kept { IfOk result (λ r. IsFalse r → side.new.parents.items ≡ side.old.parents.items) }
     ensures heap { heap_items side.new.heap ≡ heap_items side.old.heap }
 {
     if side.labels.get(node) <= label {
-        return false;
+        return Ok(false);
     }
     if bound <= label {
-        return false;
+        return Ok(false);
     }
-    side.labels.lower(node, label);
+    side.labels.lower(node, label)?;
     side.parents[node as usize] = step;
-    true
+    Ok(true)
 }

@@ -1,4 +1,4 @@
-ghost use Rattle.std.specs.Prelude.{◌≡◌, ◌<◌, ◌≤◌, All, IfOk, List, length, replicate, ℕ};
+ghost use Rattle.std.specs.Prelude.{◌≡◌, ◌<◌, ◌≤◌, All, IfOk, List, length, pos, replicate, ℕ};
 ghost use Rattle.flow_model.specs.Flow.{IsCheapest, IsFeasible, IsFilledInOrder};
 ghost use Rattle.flow_model.specs.Potentials.{IsSmall, ShowsCheapest};
 ghost use Rattle.flow_model.specs.Side.{Cuts};
@@ -23,8 +23,16 @@ pub(crate) enum Augmented {
 pub(crate) trait Augment {
     ghost use Rattle.residual_net.specs.Residual.{ResidualNet};
     ghost use Rattle.flow_solver.specs.Augmented.{IfCutOff, IfSent};
+    ghost use Rattle.std.specs.Prelude.{ℤ, List};
 
     ghost fits: { Self → ResidualNet → Type 0 };
+
+    // the potentials that show the flow so far
+    ghost shown: { Self → List ℤ };
+
+    /// The potentials that show the flow so far, one for each node.
+    fn potentials(&self, alloc: Global) -> Result<Vec<i128>, NoMemory>
+        ensures { IfOk result (λ p. p.items ≡ shown self.now) };
 
     /// Sends more units along a cheapest path, and changes the potentials so that they show the new flow; or finds that
     /// no path is left.
@@ -33,17 +41,16 @@ pub(crate) trait Augment {
         alloc: Global,
         instance: &Instance,
         residual: &mut FlowNet,
-        potentials: &mut [i128],
         sent: u64,
     ) -> Result<Augmented, NoMemory>
         requires fits { fits self.old residual.old }
         requires net { residual.old.net ≡ instance.now }
         requires less { sent < instance.now.demand }
-        requires partial { IsPartialSolution residual.old potentials.old sent }
+        requires partial { IsPartialSolution residual.old (shown self.old) sent }
         ensures fits { IfOk result (λ r. IfSent r (λ n. fits self.new residual.new)) }
         ensures more { IfOk result (λ r. IfSent r (λ n. sent < n)) }
         ensures most { IfOk result (λ r. IfSent r (λ n. n ≤ instance.now.demand)) }
-        ensures partial { IfOk result (λ r. IfSent r (λ n. IsPartialSolution residual.new potentials.new n)) }
+        ensures partial { IfOk result (λ r. IfSent r (λ n. IsPartialSolution residual.new (shown self.new) n)) }
         ensures net { IfOk result (λ r. IfSent r (λ n. residual.new.net ≡ residual.old.net)) }
         ensures cuts { IfOk result (λ r. IfCutOff r (λ side. Cuts instance.now side)) };
 }
@@ -54,7 +61,8 @@ pub(crate) fn solve_by<A: Augment>(
     alloc: Global,
     instance: &Instance,
 ) -> Result<Solved, NoMemory>
-    requires { A.fits search.old (record { net = instance.now; flow = replicate (length instance.now.arcs) 0 }) }
+    requires fits { A.fits search.old (record { net = instance.now; flow = replicate (length instance.now.arcs) 0 }) }
+    requires flat { A.shown search.old ≡ replicate instance.now.nodes (pos 0) }
     ensures cheapest { IfOk result (λ s. IfFlow s (λ flow p. IsCheapest instance.now flow)) }
     ensures in_order { IfOk result (λ s. IfFlow s (λ flow p. IsFilledInOrder instance.now flow)) }
     ensures shown { IfOk result (λ s. IfFlow s (λ flow p. ShowsCheapest instance.now flow p)) }
@@ -64,10 +72,9 @@ pub(crate) fn solve_by<A: Augment>(
 {
     let demand = instance.demand();
     let mut residual = FlowNet::open(alloc, instance)?;
-    let mut potentials = Vec::from_elem(alloc, 0, instance.nodes() as usize)?;
     let mut sent = 0;
     while sent < demand {
-        let found = search.augment(alloc, instance, &mut residual, &mut potentials, sent)?;
+        let found = search.augment(alloc, instance, &mut residual, sent)?;
         match found {
             Augmented::Sent { units } => sent = units,
             Augmented::Cut { side } => {
@@ -80,6 +87,6 @@ pub(crate) fn solve_by<A: Augment>(
     let flow = Flow::from_vec(Vec::from_slice(alloc, residual.flow())?);
     Ok(Solved::Flow {
         flow,
-        potentials: Items::from_vec(potentials),
+        potentials: Items::from_vec(search.potentials(alloc)?),
     })
 }

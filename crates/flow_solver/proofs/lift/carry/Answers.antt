@@ -74,8 +74,8 @@ overflow_sub-label c =
     let le = way.2 in
     omega (arith, le, label)
 
-pub lower_end-lower-requires-clause-node : goal.lower_end-lower-requires-clause-node
-lower_end-lower-requires-clause-node c =
+pub lower_end-requires-clause-node : goal.lower_end-requires-clause-node
+lower_end-requires-clause-node c =
     let residual = c.args.residual.now in
     let p = c.args._potentials.now in
     let ok = c.arcs-arcs.ensures.bounds in
@@ -96,8 +96,8 @@ lower_end-lower-requires-clause-node c =
     let n = so.tree.long in
     omega (arith, in_next, next, n)
 
-pub lower_end-lower-requires-clause-parents : goal.lower_end-lower-requires-clause-parents
-lower_end-lower-requires-clause-parents c =
+pub lower_end-requires-clause-parents : goal.lower_end-requires-clause-parents
+lower_end-requires-clause-parents c =
     let residual = c.args.residual.now in
     let p = c.args._potentials.now in
     let ok = c.arcs-arcs.ensures.bounds in
@@ -138,11 +138,11 @@ loop-taken-preserved c =
     let in_next = way.1 in
     let label : c.get.result ≡ slice_index e (head_of (arc_at residual.net.arcs (parent_of backs u).0) (parent_of backs u).1) = c.get.ensures ∙ ap (λ v. slice_index e v) next in
     let w = head_of (arc_at residual.net.arcs (parent_of backs u).0) (parent_of backs u).1 in
-    let after = c.lower_end-lower.ensures in
+    let after = c.in_ok-_lower.ensures in
     let labels = c.loop-taken.source.labels in
     let made = f.best - c.get.result in
-    let new = c.lower_end-lower.new.side in
-    let it = carry_turn residual p ok c.requires.shown c.args.source.now.labels e backs c.requires.two.back f.radius (f.best - f.radius) f.best c.requires.met labels c.loop-taken.source.parents.items c.loop-taken.taken u so ne new.labels new.parents.items c.lower_end-lower.result made (ap (λ x. f.best - x) label)
+    let new = c.lower_end.new.side in
+    let it = carry_turn residual p ok c.requires.shown c.args.source.now.labels e backs c.requires.two.back f.radius (f.best - f.radius) f.best c.requires.met labels c.loop-taken.source.parents.items c.loop-taken.taken u so ne new.labels new.parents.items c.in_ok-_lower._lower made (ap (λ x. f.best - x) label)
     (λ t. let h = after.lower t in subst (λ v. made < slice_index labels v) next h)
     (λ t. after.labels t ∙ ap (λ v. set labels v made) next)
     (λ t. after.parents t ∙ ap (λ v. set c.loop-taken.source.parents.items v c.index-step.result.now) next ∙ ap (λ s. set c.loop-taken.source.parents.items w s) step)

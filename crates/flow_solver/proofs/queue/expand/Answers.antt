@@ -1,7 +1,7 @@
-use Rattle.std.proofs.Common.{ℕ, ◌∷◌, ◌≡◌, length, arith, ap, subst, ◌∙◌, heap_items}
+use Rattle.std.proofs.Common.{◌∷◌, ◌≡◌, arith, subst, heap_items}
 use Rattle.std.specs.List.Sorted.{IsPermutation}
 use Rattle.flow_solver.specs.Turned.{seen, seen_potentials}
-use Rattle.std.specs.Prelude.{slice_index, ◌≢◌}
+use Rattle.std.specs.Prelude.{slice_index}
 use Rattle.flow_solver.specs.Queue.{key_of}
 use Rattle.flow_solver.proofs.Turned.{seen_ok, seen_nodes}
 use Rattle.flow_solver.proofs.Fitting.{row_is}
@@ -12,10 +12,9 @@ pub returns-in_default-node_of-clause-queue : goal.returns-in_default-node_of-cl
 returns-in_default-node_of-clause-queue c =
     let t = c.args.turned in
     let n = c.requires.tree.long in
-    let e = ap (length {A = ℕ}) c.list.ensures in
     let none = c.in_default-node_of.ensures.stale in
     queue_stale (seen t c.args.residual.now) (seen_potentials t c.args.potentials.now) (seen_ok t c.args.residual.now c.arcs-arcs.ensures.bounds) c.args.side.now.labels (heap_items c.args.side.now.heap) c.args.meeting.best c.requires.queue c.in-Some.key (heap_items c.pop.new.self) c.in-Some.ensures.permutation
-    (λ u l. subst (λ ls. c.in-Some.key ≢ key_of (slice_index ls u) u) c.list.ensures (none u (omega (arith, n, l, e))))
+    (λ u l. none u (omega (arith, n, l)))
 
 pub returns-clause-queue : goal.returns-clause-queue
 returns-clause-queue c =
@@ -24,18 +23,16 @@ returns-clause-queue c =
     let labels = c.args.side.now.labels in
     let n = c.requires.tree.long in
     let m = seen_nodes t c.args.residual.now in
-    let e = ap (length {A = ℕ}) c.list.ensures in
     let i = c.in-Some-node_of.ensures.inside in
     let after = c.in_ok-found.ensures in
-    let key : c.in-Some.key ≡ key_of (slice_index labels v) v = c.in-Some-node_of.ensures.node ∙ ap (λ ls. key_of (slice_index ls v) v) c.list.ensures in
+    let key : c.in-Some.key ≡ key_of (slice_index labels v) v = c.in-Some-node_of.ensures.node in
     let moved = subst (λ k. IsPermutation (heap_items c.args.side.now.heap) (k ∷ heap_items c.pop.new.self)) key c.in-Some.ensures.permutation in
-    queue_opened (seen t c.args.residual.now) (seen_potentials t c.args.potentials.now) (seen_ok t c.args.residual.now c.arcs-arcs.ensures.bounds) labels (heap_items c.args.side.now.heap) c.args.meeting.best c.requires.queue v (heap_items c.pop.new.self) _ _ c.in_ok-found.found.best after.best (omega (arith, n, i, e)) moved after.progress after.relaxed
+    queue_opened (seen t c.args.residual.now) (seen_potentials t c.args.potentials.now) (seen_ok t c.args.residual.now c.arcs-arcs.ensures.bounds) labels (heap_items c.args.side.now.heap) c.args.meeting.best c.requires.queue v (heap_items c.pop.new.self) _ _ c.in_ok-found.found.best after.best (omega (arith, n, i)) moved after.progress after.relaxed
 
 pub open_node-requires-clause-row : goal.open_node-requires-clause-row
 open_node-requires-clause-row c =
     let n = c.requires.tree.long in
     let m = seen_nodes c.args.turned c.args.residual.now in
-    let e = ap (length {A = ℕ}) c.list.ensures in
     let i = c.in-Some-node_of.ensures.inside in
     let made = c.in_ok-make_row.ensures in
-    row_is c.args.residual.now c.make_row.new.lanes.heads.net c.make_row.new.lanes.starts.items c.make_row.new.lanes.lanes.items c.row_of-row.result.now c.in-Some-node_of.node (omega (arith, n, m, i, e)) made.made c.row_of-row.ensures made.lanes
+    row_is c.args.residual.now c.make_row.new.lanes.heads.net c.make_row.new.lanes.starts.items c.make_row.new.lanes.lanes.items c.row_of-row.result.now c.in-Some-node_of.node (omega (arith, n, m, i)) made.made c.row_of-row.ensures made.lanes

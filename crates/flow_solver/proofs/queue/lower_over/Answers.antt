@@ -1,4 +1,4 @@
-use Rattle.std.proofs.Common.{true, false, arith, refl, ap, sym, subst, ◌∙◌, ◌≡◌, ◌<◌, ◌+◌, length}
+use Rattle.std.proofs.Common.{arith, ap, sym, subst, ◌∙◌, ◌≡◌, ◌<◌, ◌+◌, length}
 use Rattle.std.specs.Prelude.{slice_index, set, IsTrue}
 use Rattle.flow_solver.specs.Search.{IsRelaxedTo}
 use Rattle.flow_solver.specs.Turned.{seen, seen_potentials}
@@ -38,8 +38,8 @@ overflow_add-label c =
     let fits = label_fits R q (seen_ok t residual ok) (seen_shown t residual p ok c.requires.shown) labels c.args.side.now.parents.items c.requires.tree s.arc s.back next.known next.way near cost cost_at most in
     omega (arith, fits, label)
 
-pub returns-then-lower_end-clause-tree : goal.returns-then-lower_end-clause-tree
-returns-then-lower_end-clause-tree c =
+pub returns-then-branch-clause-tree : goal.returns-then-branch-clause-tree
+returns-then-branch-clause-tree c =
     let residual = c.args.residual.now in
     let p = c.args.potentials.now in
     let t = c.args.turned in
@@ -60,12 +60,12 @@ returns-then-lower_end-clause-tree c =
     let near_at = c.ends_of-near.ensures.near ∙ near_is residual p ok c.requires.shown c.requires.bounded t s c.requires.step in
     let far_at = c.ends_of-near.ensures.far ∙ far_is residual p ok c.requires.shown c.requires.bounded t s c.requires.step in
     let sum : c.get.result + cost ≡ slice_index labels near + cost = ap (λ x. x + cost) label in
-    let lower = λ (e : IsTrue true). subst (λ x. x < slice_index labels far) sum (c.if-lower_end.ensures.lower e) in
-    let made = λ (e : IsTrue true). c.if-lower_end.ensures.labels e ∙ ap (λ x. set labels far x) sum in
-    tried R q (seen_ok t residual ok) (seen_shown t residual p ok c.requires.shown) labels c.args.side.now.parents.items c.requires.tree s.arc s.back next.known next.way near far cost true _ _ near_at far_at cost_at lower made c.if-lower_end.ensures.parents c.if-lower_end.ensures.same c.if-lower_end.ensures.kept
+    let lower = λ (e : IsTrue c.in_ok-lower_end.field-0). subst (λ x. x < slice_index labels far) sum (c.in_ok-lower_end.ensures.lower e) in
+    let made = λ (e : IsTrue c.in_ok-lower_end.field-0). c.in_ok-lower_end.ensures.labels e ∙ ap (λ x. set labels far x) sum in
+    tried R q (seen_ok t residual ok) (seen_shown t residual p ok c.requires.shown) labels c.args.side.now.parents.items c.requires.tree s.arc s.back next.known next.way near far cost c.in_ok-lower_end.field-0 _ _ near_at far_at cost_at lower made c.in_ok-lower_end.ensures.parents c.in_ok-lower_end.ensures.same c.in_ok-lower_end.ensures.kept
 
-pub returns-then-lower_end-clause-relaxed : goal.returns-then-lower_end-clause-relaxed
-returns-then-lower_end-clause-relaxed c =
+pub returns-then-branch-clause-relaxed : goal.returns-then-branch-clause-relaxed
+returns-then-branch-clause-relaxed c =
     let residual = c.args.residual.now in
     let p = c.args.potentials.now in
     let t = c.args.turned in
@@ -86,17 +86,17 @@ returns-then-lower_end-clause-relaxed c =
     let near_at = c.ends_of-near.ensures.near ∙ near_is residual p ok c.requires.shown c.requires.bounded t s c.requires.step in
     let far_at = c.ends_of-near.ensures.far ∙ far_is residual p ok c.requires.shown c.requires.bounded t s c.requires.step in
     let sum : c.get.result + cost ≡ slice_index labels near + cost = ap (λ x. x + cost) label in
-    let lower = λ (e : IsTrue true). subst (λ x. x < slice_index labels far) sum (c.if-lower_end.ensures.lower e) in
-    let made = λ (e : IsTrue true). c.if-lower_end.ensures.labels e ∙ ap (λ x. set labels far x) sum in
-    let so = tried_lower R q labels c.lower_end.new.side.labels s.arc near far cost s.back true near_at far_at cost_at lower made refl in
+    let lower = λ (e : IsTrue c.in_ok-lower_end.field-0). subst (λ x. x < slice_index labels far) sum (c.in_ok-lower_end.ensures.lower e) in
+    let made = λ (e : IsTrue c.in_ok-lower_end.field-0). c.in_ok-lower_end.ensures.labels e ∙ ap (λ x. set labels far x) sum in
+    let so = tried_lower R q labels c.lower_end.new.side.labels s.arc near far cost s.back c.in_ok-lower_end.field-0 near_at far_at cost_at lower made c.if-branch.true in
     let low = step_low R q (seen_ok t residual ok) (seen_shown t residual p ok c.requires.shown) labels c.args.side.now.parents.items c.requires.tree s.arc s.back next.known next.way in
     let far_l = far_in residual p ok c.requires.shown c.requires.bounded t s c.requires.step far c.ends_of-near.ensures.far in
     let l = subst (λ w. w < length labels) far_at (let k : far < length labels = omega (arith, far_l, n, m) in k) in
     let facts = lowered_step R q labels c.lower_end.new.side.labels s.arc so.0 s.back low l so.1 in
     facts.2 c.args.bound
 
-pub returns-then-lower_end-clause-tail : goal.returns-then-lower_end-clause-tail
-returns-then-lower_end-clause-tail c =
+pub returns-then-branch-clause-tail : goal.returns-then-branch-clause-tail
+returns-then-branch-clause-tail c =
     let residual = c.args.residual.now in
     let p = c.args.potentials.now in
     let t = c.args.turned in
@@ -117,17 +117,17 @@ returns-then-lower_end-clause-tail c =
     let near_at = c.ends_of-near.ensures.near ∙ near_is residual p ok c.requires.shown c.requires.bounded t s c.requires.step in
     let far_at = c.ends_of-near.ensures.far ∙ far_is residual p ok c.requires.shown c.requires.bounded t s c.requires.step in
     let sum : c.get.result + cost ≡ slice_index labels near + cost = ap (λ x. x + cost) label in
-    let lower = λ (e : IsTrue true). subst (λ x. x < slice_index labels far) sum (c.if-lower_end.ensures.lower e) in
-    let made = λ (e : IsTrue true). c.if-lower_end.ensures.labels e ∙ ap (λ x. set labels far x) sum in
-    let so = tried_lower R q labels c.lower_end.new.side.labels s.arc near far cost s.back true near_at far_at cost_at lower made refl in
+    let lower = λ (e : IsTrue c.in_ok-lower_end.field-0). subst (λ x. x < slice_index labels far) sum (c.in_ok-lower_end.ensures.lower e) in
+    let made = λ (e : IsTrue c.in_ok-lower_end.field-0). c.in_ok-lower_end.ensures.labels e ∙ ap (λ x. set labels far x) sum in
+    let so = tried_lower R q labels c.lower_end.new.side.labels s.arc near far cost s.back c.in_ok-lower_end.field-0 near_at far_at cost_at lower made c.if-branch.true in
     let low = step_low R q (seen_ok t residual ok) (seen_shown t residual p ok c.requires.shown) labels c.args.side.now.parents.items c.requires.tree s.arc s.back next.known next.way in
     let far_l = far_in residual p ok c.requires.shown c.requires.bounded t s c.requires.step far c.ends_of-near.ensures.far in
     let l = subst (λ w. w < length labels) far_at (let k : far < length labels = omega (arith, far_l, n, m) in k) in
     let facts = lowered_step R q labels c.lower_end.new.side.labels s.arc so.0 s.back low l so.1 in
     facts.0
 
-pub returns-else-lower_end-clause-relaxed : goal.returns-else-lower_end-clause-relaxed
-returns-else-lower_end-clause-relaxed c =
+pub returns-else-branch-clause-relaxed : goal.returns-else-branch-clause-relaxed
+returns-else-branch-clause-relaxed c =
     let residual = c.args.residual.now in
     let p = c.args.potentials.now in
     let t = c.args.turned in
@@ -147,5 +147,5 @@ returns-else-lower_end-clause-relaxed c =
     let label : c.get.result ≡ slice_index labels near = c.get.ensures in
     let near_at = c.ends_of-near.ensures.near ∙ near_is residual p ok c.requires.shown c.requires.bounded t s c.requires.step in
     let far_at = c.ends_of-near.ensures.far ∙ far_is residual p ok c.requires.shown c.requires.bounded t s c.requires.step in
-    let relaxed = tried_relaxed R q labels s.arc near far cost c.args.bound s.back false near_at far_at cost_at (λ e. let h = c.if-lower_end.ensures.relaxed e in omega (arith, h, label)) refl in
-    subst (λ ls. IsRelaxedTo R.net.arcs q ls c.args.bound s.arc s.back) (sym (c.if-lower_end.ensures.same refl)) relaxed
+    let relaxed = tried_relaxed R q labels s.arc near far cost c.args.bound s.back c.in_ok-lower_end.field-0 near_at far_at cost_at (λ e. let h = c.in_ok-lower_end.ensures.relaxed e in omega (arith, h, label)) c.if-branch.false in
+    subst (λ ls. IsRelaxedTo R.net.arcs q ls c.args.bound s.arc s.back) (sym (c.in_ok-lower_end.ensures.same c.if-branch.false)) relaxed

@@ -1,5 +1,5 @@
 use Rattle.std.proofs.Common.{ℕ, Bool, ◌∙◌, sym, ap, subst, arith, length, heap_items}
-use Rattle.std.specs.Prelude.{map, nat_lt, replicate, set}
+use Rattle.std.specs.Prelude.{replicate, set}
 use Rattle.flow_model.specs.Instance.{Net}
 use Rattle.flow_model.specs.Side.{Cuts}
 use Rattle.flow_solver.specs.declared.labels.TheConstants.{UNREACHED}
@@ -15,7 +15,7 @@ use Rattle.flow_solver.proofs.keeping.KeepingSearchAugment.augment.Goals as goal
 pub meet-requires-clause-two : goal.meet-requires-clause-two
 meet-requires-clause-two c =
     let residual = c.args.residual.now in
-    let p = c.args.potentials.now in
+    let p = c.args.self.now.potentials in
     let ok = c.requires.partial.ok in
     let ends = ok.good.ranges.ends in
     let net = sym c.requires.net in
@@ -45,6 +45,6 @@ returns-then-found-eq-UNREACHED-clause-cuts c =
     let state = c.requires.partial in
     let demand = ap (λ (n : Net). n.demand) c.requires.net in
     let less = c.requires.less in
-    let none = met_nowhere c.args.residual.now c.args.potentials.now labels c.meet.new.destination.labels parents c.in_ok-found.found.radius _ c.in_ok-found.found.best state.ok found.two.tree found.met c.if-found-eq-UNREACHED.true (found.whole c.if-found-eq-UNREACHED.true) in
-    let side = c.in_ok-side.ensures ∙ ap (map (λ label. nat_lt label UNREACHED)) c.list.ensures in
-    subst (λ (n : Net). Cuts n c.in_ok-side.side.items) c.requires.net (reached_cut c.args.residual.now c.args.potentials.now c.args.sent labels parents c.in_ok-side.side.items state none.0 (omega (arith, less, demand)) none.1 side)
+    let none = met_nowhere c.args.residual.now c.args.self.now.potentials labels c.meet.new.destination.labels parents c.in_ok-found.found.radius _ c.in_ok-found.found.best state.ok found.two.tree found.met c.if-found-eq-UNREACHED.true (found.whole c.if-found-eq-UNREACHED.true) in
+    let side = c.in_ok-side.ensures in
+    subst (λ (n : Net). Cuts n c.in_ok-side.side.items) c.requires.net (reached_cut c.args.residual.now c.args.self.now.potentials c.args.sent labels parents c.in_ok-side.side.items state none.0 (omega (arith, less, demand)) none.1 side)
