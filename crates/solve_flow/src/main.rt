@@ -37,7 +37,7 @@ fn main(rt: HostRuntime) -> io::Result<ExitCode> {
         Ok(text) => text,
         Err(_) => return tell(&rt, &Fault::Input),
     };
-    match follow(&rt, rt.alloc(), order, &text) {
+    match follow(&rt, rt.alloc(), order, text) {
         Ok(solution) => match write_all(&mut StdSink::new(io::writer(&rt)), &solution) {
             Ok(()) => Ok(ExitCode::SUCCESS),
             Err(_) => tell(&rt, &Fault::Output),
@@ -57,15 +57,17 @@ fn tell(rt: &impl Eprint, fault: &Fault) -> io::Result<ExitCode> {
     Ok(ExitCode::from(fault.status()))
 }
 
-/// Solves the problem of a text as often as ordered; the certificate of the solution, or nothing if none is ordered.
+/// Solves the problem of a text as often as ordered; the certificate of the solution, or nothing if none is ordered. The
+/// text is gone before the first solving.
 fn follow(
     rt: &(impl Clock + Eprint),
     alloc: Global,
     order: Order,
-    text: &[u8],
+    text: Vec<u8>,
 ) -> Result<Vec<u8>, Fault> {
     let start = Instant::now(rt).map_err(|_| Fault::Clock)?;
-    let instance = read_instance(alloc, text)?;
+    let instance = read_instance(alloc, &text)?;
+    drop(text);
     let read = Instant::now(rt).map_err(|_| Fault::Clock)?;
     let micros = read.duration_since(start).as_micros();
     eprintln!(rt; "read {micros} us").map_err(|_| Fault::Output)?;
