@@ -1,5 +1,5 @@
 -- Entries that have been gathered, followed by entries that are still to be read.
-use Rattle.std.proofs.Common.{◌≡◌, ℕ, ◌-◌, ◌<◌, length, option_map, List, [], ◌∷◌, ◌++◌, Option, Some, None, Result, Ok, Err, refl, sym, ap, ◌∙◌, append-nil, append_assoc}
+use Rattle.std.proofs.Common.{◌≡◌, ℕ, ◌-◌, ◌<◌, length, option_map, List, [], ◌∷◌, Option, Some, None, Result, Ok, Err, refl, sym, ap, ◌∙◌, append-nil, append_assoc}
 use Rattle.json.specs.Token.{Token}
 use Rattle.json.specs.Json as json
 use Rattle.json.specs.Json.{parse_map}
@@ -13,11 +13,7 @@ use Rattle.channel_map.specs.declared.fault.Field.{Field}
 use Rattle.channel_map.specs.declared.edge.Edge.{Edge}
 use Rattle.channel_map.specs.Entry.{entry_of}
 use Rattle.channel_map.specs.Channels.{Gathered, before, gathered_of, array_entries}
-use Rattle.channel_map.specs.Found.{with_entry}
-
-abbrev pub joined : Gathered → Gathered → Gathered
-joined (edges, None) more = (edges ++ more.0, more.1)
-joined (edges, Some field) more = (edges, Some field)
+use Rattle.channel_map.specs.Found.{with_entry, joined}
 
 turn : (s : Gathered) (entry : Result Edge Field) (more : Gathered) → joined s (before entry more) ≡ joined (with_entry s entry) more
 turn (edges, None) (Ok edge) more = ap (λ es. (es, more.1)) (sym (append_assoc edges (edge ∷ []) more.0))

@@ -10,3 +10,4 @@ pub mod Good
 pub mod Numbered
 pub mod Places
 pub mod Counted
+pub mod Progress

@@ -16,3 +16,8 @@ abbrev pub with_entry : Gathered → Result Edge Field → Gathered
 with_entry (edges, None) (Ok edge) = (edges ++ edge ∷ [], None)
 with_entry (edges, None) (Err field) = (edges, Some field)
 with_entry (edges, Some old) entry = (edges, Some old)
+
+-- what has been gathered, and what is gathered after it
+abbrev pub joined : Gathered → Gathered → Gathered
+joined (edges, None) more = (edges ++ more.0, more.1)
+joined (edges, Some field) more = (edges, Some field)

@@ -7,3 +7,4 @@ pub mod Slots
 pub mod Found
 pub mod Listed
 pub mod Nodes
+pub mod Pieces

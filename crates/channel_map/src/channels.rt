@@ -9,12 +9,13 @@ ghost use Rattle.channel_map.specs.Found.{found_in};
 ghost use Rattle.channel_map.specs.Reading.{json_value};
 
 use crate::entries::{Entries, Unread, read_array};
+use crate::pieces::read_pieces;
 use json::{Invalid, Reader, Scratch};
 use json_pass::{is_object, pass_after, pass_value};
 use std::alloc::Global;
 
 #[tactic(auto, using(json_pass::proofs::Slots::equal_texts))]
-fn is_same(text: &str, other: &str) -> bool
+pub(crate) fn is_same(text: &str, other: &str) -> bool
     ensures { MatchBool result (text.now ≡ other.now) (text.now ≢ other.now) }
 {
     text == other
@@ -122,6 +123,9 @@ fn read_text(alloc: Global, text: &str) -> Result<Option<Entries>, Unread>
     ensures ok { IfOk result (λ found. option_map listed_entries (read text.now) ≡ Some (found_in found)) }
     ensures err { result ≡ Err Unread.NotJson → read text.now ≡ None }
 {
+    if let Some(found) = read_pieces(alloc, text)? {
+        return Ok(Some(found));
+    }
     let mut scratch = Scratch::new(alloc);
     let mut reader = Reader::new(text, &mut scratch)?;
     let found = read_outer(alloc, &mut reader, 127)?;

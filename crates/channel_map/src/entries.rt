@@ -47,7 +47,7 @@ pub(crate) struct Entries {
 }
 
 // An entry after the first bad one counts no more.
-fn add(
+pub(crate) fn add(
     edges: &mut Vec<Edge>,
     bad: Option<Field>,
     entry: Result<Edge, Field>,

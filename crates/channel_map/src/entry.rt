@@ -1,4 +1,5 @@
-ghost use Rattle.std.specs.Prelude.{◌≡◌, ◌<◌, length, map, Some, None, MatchResult, OnOk};
+ghost use Rattle.std.specs.Prelude.{◌≡◌, ◌<◌, ◌≤◌, ◌∷◌, length, map, Some, None, MatchResult, OnOk};
+ghost use Rattle.json.specs.Reads.{token_of};
 ghost use Rattle.json_pass.specs.Members.{slot_data};
 ghost use Rattle.json_pass.specs.Value.{value_as};
 ghost use Rattle.channel_map.specs.Entry.{edge_of, entry_of};
@@ -11,8 +12,8 @@ use crate::key::{
     read_active, read_amount, read_amount_or, read_node, read_other_node, read_scid, read_side,
     read_u16, read_u32,
 };
-use json::{Invalid, Reader};
-use json_pass::{Leaf, read_object};
+use json::{Invalid, Reader, Token};
+use json_pass::{Leaf, read_object_after};
 use plan_base::{Dir, NodeId};
 
 fn side_between(source: &NodeId, destination: &NodeId) -> u8
@@ -64,6 +65,21 @@ pub(crate) fn read_entry(
         (λ _. value_as entry_of depth reader.old ≡ None) }
     ensures shorter { OnOk result (length reader.new < length reader.old) }
 {
+    let token = reader.next().ok_or(Invalid)?;
+    read_entry_after(token, reader, depth)
+}
+
+/// Takes the rest of an entry whose first token has been taken, as `read_entry` does.
+pub(crate) fn read_entry_after<'a>(
+    token: Token<'a>,
+    reader: &mut Reader<'a>,
+    depth: usize,
+) -> Result<Result<Edge, Field>, Invalid>
+    ensures value { MatchResult result
+        (λ entry. value_as entry_of depth (token_of token.entry ∷ reader.old) ≡ Some (entry, reader.new))
+        (λ _. value_as entry_of depth (token_of token.entry ∷ reader.old) ≡ None) }
+    ensures shorter { OnOk result (length reader.new ≤ length reader.old) }
+{
     let names = [
         "source",
         "destination",
@@ -78,7 +94,7 @@ pub(crate) fn read_entry(
         "htlc_maximum_msat",
     ];
     let mut slots = [None; 11];
-    if !read_object(reader, depth, &names, &mut slots)? {
+    if !read_object_after(token, reader, depth, &names, &mut slots)? {
         return Ok(Err(Field::NotObject));
     }
     Ok(edge_of(&slots))

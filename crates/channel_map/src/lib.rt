@@ -10,6 +10,7 @@ mod fault;
 mod key;
 mod nodes;
 mod order;
+mod pieces;
 
 pub use channel_map::{
     ChannelMap, LOCAL_DIRECTIONS_MAX, Local, MAP_DIRECTIONS_MAX, MAP_NODES_MAX, read_local,

@@ -206,6 +206,69 @@ fn entry_fault(index: usize, field: Option<Field>) -> Option<MapFault> {
     }
 }
 
+// How many entries a long text has, of about 400 bytes each.
+const LONG: usize = 400;
+
+// How a long text begins, what each entry has more, how the text ends, and its fault.
+const LONG_TEXTS: &[(&str, &str, &str, &str)] = &[
+    ("{\"channels\":[", "", "]}", "a map"),
+    (" { \"channels\" :\n[ ", "", " ]\n} ", "a map"),
+    ("{\"result\":{\"channels\":[", "", "]}}", "a map"),
+    (
+        "{\"channels\":[",
+        "\"features\":\"},},},},\",",
+        "]}",
+        "a map",
+    ),
+    ("{\"channels\":[", "\"a\":[{},{},{},{},{}],", "]}", "a map"),
+    ("{\"channels\":[", "", ",]}", "not JSON"),
+    ("{\"channels\":[,", "", "]}", "not JSON"),
+    ("{\"channels\":[", "", "]} 1", "not JSON"),
+    ("{\"channels\":[", "", "]", "not JSON"),
+    ("{\"channels\":[", "\"a\":1e400,", "]}", "not JSON"),
+    ("{\"channels\":[", "", "],\"channels\":0}", "no channels"),
+    ("{\"channel\":[", "", "]}", "no channels"),
+];
+
+fn long_text(alloc: Global, start: &str, more: &str, end: &str) -> Result<String, AllocError> {
+    let mut text = String::from_str(alloc, start)?;
+    for block in 0..LONG {
+        let more = format!(in alloc; "{more}\"short_channel_id\":\"{block}x1x0\",")?;
+        if block > 0 {
+            text.push_str(",\n")?;
+        }
+        text.push_str(entry(alloc, "", more.as_str())?.as_str())?;
+    }
+    text.push_str(end)?;
+    Ok(text)
+}
+
+#[test]
+fn long_maps(rt: HostRuntime) -> Result<(), Fail> {
+    let alloc = rt.alloc();
+    for (start, more, end, name) in LONG_TEXTS {
+        let text = long_text(alloc, start, more, end)?;
+        let map = read_map(alloc, text.as_bytes());
+        let count = match &map {
+            Ok(map) => map.dirs().len(),
+            Err(_) => 0,
+        };
+        let found = name_of(map.err());
+        assert!(rt; found == *name, "{found} for {start} {more} {end}");
+        assert!(rt;
+            (count == LONG) == (*name == "a map"),
+            "{count} for {start} {more} {end}"
+        );
+    }
+    let text = long_text(alloc, "{\"channels\":[", "", ",1]}")?;
+    let fault = read_map(alloc, text.as_bytes()).err();
+    assert!(rt;
+        fault == entry_fault(LONG, Some(Field::NotObject)),
+        "{fault:?}"
+    );
+    Ok(())
+}
+
 #[test]
 fn spoiled_maps(rt: HostRuntime) -> Result<(), Fail> {
     let alloc = rt.alloc();

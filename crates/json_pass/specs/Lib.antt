@@ -2,3 +2,4 @@ pub mod Value
 pub mod Leaf
 pub mod Members
 pub mod Loops
+pub mod Pieces

@@ -10,7 +10,7 @@ mod number;
 mod pass;
 
 pub use leaf::Leaf;
-pub use members::read_object;
+pub use members::{read_object, read_object_after};
 pub use pass::{is_array, is_object, pass_after, pass_value};
 
 #[cfg(test)]

@@ -1,11 +1,12 @@
-ghost use Rattle.std.specs.Prelude.{◌≡◌, ◌≢◌, ◌<◌, ℕ, List, length, map, replicate, get_or, [], true, Some, None, MatchOption, MatchResult, OnOk, All, if◌then◌else◌};
+ghost use Rattle.std.specs.Prelude.{◌≡◌, ◌≢◌, ◌<◌, ◌≤◌, ◌∷◌, ℕ, List, length, map, replicate, get_or, [], true, Some, None, MatchOption, MatchResult, OnOk, All, if◌then◌else◌};
 ghost use Rattle.std.specs.Bool.{MatchBool};
+ghost use Rattle.json.specs.Reads.{token_of};
 ghost use Rattle.json_pass.specs.Value.{value_as};
 ghost use Rattle.json_pass.specs.Members.{texts, slot_data, are_distinct, last_values, wanted_values, members_as};
 
 use crate::leaf::Leaf;
 use crate::pass::{is_object, pass_after, pass_value};
-use json::{Invalid, Reader};
+use json::{Invalid, Reader, Token};
 
 /// Takes one value from the reader, with at most `depth` arrays and objects open at a place in it. If it is an object,
 /// the answer is true, and the slot at the place of each name has the outline of the last value under that name, or
@@ -27,6 +28,26 @@ pub fn read_object<'a>(
     ensures same { length slots.new ≡ length slots.old }
 {
     let token = reader.next().ok_or(Invalid)?;
+    read_object_after(token, reader, depth, names, slots)
+}
+
+/// Takes the rest of a value whose first token has been taken, as `read_object` does.
+pub fn read_object_after<'a>(
+    token: Token<'a>,
+    reader: &mut Reader<'a>,
+    depth: usize,
+    names: &[&str],
+    slots: &mut [Option<Leaf<'a>>],
+) -> Result<bool, Invalid>
+    requires same { length slots.old ≡ length names.now }
+    requires distinct { are_distinct (texts names.now) ≡ true }
+    ensures value { MatchResult result
+        (λ found. value_as (wanted_values (texts names.now)) depth (token_of token.entry ∷ reader.old)
+        ≡ Some (if found then Some (map slot_data slots.new) else None, reader.new))
+        (λ _. value_as (wanted_values (texts names.now)) depth (token_of token.entry ∷ reader.old) ≡ None) }
+    ensures shorter { OnOk result (length reader.new ≤ length reader.old) }
+    ensures same { length slots.new ≡ length slots.old }
+{
     if is_object(&token) {
         if depth == 0 {
             return Err(Invalid);

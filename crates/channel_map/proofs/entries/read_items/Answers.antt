@@ -6,8 +6,8 @@ use Rattle.json_pass.proofs.Turns.{item_read, item_refused, items_over}
 use Rattle.json_pass.proofs.Fronts.{as_some, as_none}
 use Rattle.channel_map.specs.Entry.{entry_of}
 use Rattle.channel_map.specs.Channels.{Gathered, gathered_of}
-use Rattle.channel_map.specs.Found.{with_entry}
-use Rattle.channel_map.proofs.Gathering.{joined, turn_parse, end_joined}
+use Rattle.channel_map.specs.Found.{with_entry, joined}
+use Rattle.channel_map.proofs.Gathering.{turn_parse, end_joined}
 use Rattle.channel_map.proofs.entries.read_items.Goals as goal
 
 pub returns-in_err-entry-clause-err : goal.returns-in_err-entry-clause-err

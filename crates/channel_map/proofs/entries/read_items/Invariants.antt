@@ -3,7 +3,7 @@ use Rattle.json.specs.Json.{items, value}
 use Rattle.serde_json.specs.Read.{of_items, converted}
 use Rattle.json.specs.Json.{parse_map}
 use Rattle.channel_map.specs.Channels.{gathered_of}
-use Rattle.channel_map.proofs.Gathering.{joined}
+use Rattle.channel_map.specs.Found.{joined}
 use Rattle.channel_map.proofs.entries.read_items.Given as goal
 
 abbrev pub invariant-items : goal.invariant-items
