@@ -14,8 +14,6 @@ mod number;
 mod print;
 mod problem;
 mod reader;
-#[cfg(test)]
-mod tests;
 mod verdict;
 mod version;
 

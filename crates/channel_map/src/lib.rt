@@ -19,6 +19,3 @@ pub use channel_map::{
 pub use edge::Edge;
 pub use fault::{Field, MapFault};
 pub use nodes::{Ends, MapNodes};
-
-#[cfg(test)]
-mod tests;

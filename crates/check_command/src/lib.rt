@@ -4,8 +4,6 @@
 mod command;
 mod end;
 mod finding;
-#[cfg(test)]
-mod tests;
 
 pub use command::{TEXT_MAX, check};
 pub use end::CheckEnd;

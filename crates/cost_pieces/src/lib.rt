@@ -4,8 +4,6 @@
 
 mod room;
 mod scale;
-#[cfg(test)]
-mod tests;
 mod unit;
 
 pub use room::pieces;

@@ -3,7 +3,5 @@
 #![tactic(auto)]
 
 mod hop;
-#[cfg(test)]
-mod tests;
 
 pub use hop::{Hop, hops};

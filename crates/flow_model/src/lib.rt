@@ -9,8 +9,6 @@ mod laws;
 mod limits;
 mod side;
 mod solve;
-#[cfg(test)]
-mod tests;
 
 pub use flow::{Flow, cost, fill};
 pub use instance::{Arc, Instance};

@@ -6,8 +6,6 @@ mod command;
 mod end;
 mod replies;
 mod size;
-#[cfg(test)]
-mod tests;
 
 pub use command::generate;
 pub use end::GenEnd;

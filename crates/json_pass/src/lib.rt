@@ -12,6 +12,3 @@ mod pass;
 pub use leaf::Leaf;
 pub use members::{read_object, read_object_after};
 pub use pass::{is_array, is_object, pass_after, pass_value};
-
-#[cfg(test)]
-mod tests;

@@ -20,6 +20,3 @@ pub use layer::Layer;
 pub use name::{NAME_MAX, Name, NameFault};
 pub use records::{BIAS_MAX, BIAS_MIN, Bias, Bound, Constraint, Created, ENTRIES_MAX, Update};
 pub use snapshot::Snapshot;
-
-#[cfg(test)]
-mod tests;

@@ -7,6 +7,3 @@ mod refusal;
 
 pub use changes::{age, bias, create_channel, disable, inform, update};
 pub use refusal::LayerRefusal;
-
-#[cfg(test)]
-mod tests;

@@ -10,6 +10,3 @@ mod window;
 pub use cut::{Cut, ReadFault};
 pub use limits::LINE_MAX;
 pub use lines::Lines;
-
-#[cfg(test)]
-mod tests;

@@ -13,6 +13,3 @@ pub use journal::{JOURNAL_MAX, Journal, JournalRefusal};
 pub use machine::{Machine, MachineRefusal};
 pub use object::Object;
 pub use steps::{Outcome, Step, play, take_step};
-
-#[cfg(test)]
-mod tests;

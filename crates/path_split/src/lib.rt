@@ -7,8 +7,6 @@ mod edge;
 mod part;
 mod parts;
 mod paths;
-#[cfg(test)]
-mod tests;
 mod walk;
 
 pub use part::Part;

@@ -20,6 +20,3 @@ pub use items::Items;
 pub use memory::NoMemory;
 pub use node_id::{IdFault, NodeId};
 pub use text::Text;
-
-#[cfg(test)]
-mod tests;

@@ -21,8 +21,6 @@ mod std_clock;
 mod std_places;
 mod std_stream;
 mod stream;
-#[cfg(test)]
-mod tests;
 mod unix;
 
 pub use acceptor::Acceptor;

@@ -6,8 +6,6 @@ mod list;
 mod one;
 mod refusal;
 mod sum;
-#[cfg(test)]
-mod tests;
 
 pub use list::{RESERVATIONS_MAX, Reservations};
 pub use refusal::{NotReserved, ReserveRefusal};

@@ -4,7 +4,5 @@
 
 mod residual;
 mod rows;
-#[cfg(test)]
-mod tests;
 
 pub use residual::Residual;

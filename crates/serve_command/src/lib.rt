@@ -4,7 +4,5 @@
 
 mod line_server;
 mod served;
-#[cfg(test)]
-mod tests;
 
 pub use served::{Served, serve_all};

@@ -9,8 +9,6 @@ mod mem_bind;
 mod place;
 mod preparing;
 mod serve;
-#[cfg(test)]
-mod tests;
 mod unix_bind;
 mod worker;
 mod workers;

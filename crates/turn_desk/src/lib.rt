@@ -18,6 +18,3 @@ pub use limits::{PASSES_MAX, TURNS_MAX};
 pub use pass::{Note, Pass};
 pub use refusal::DeskRefusal;
 pub use view::{Kept, View};
-
-#[cfg(test)]
-mod tests;

@@ -1,10 +1,11 @@
 ghost use Rattle.std.specs.Prelude.{◌≡◌, length, All, IfSome};
 ghost use Rattle.plan_base.specs.Held.{IsGoodReservation};
 ghost use Rattle.layer.specs.Update.{IsGoodUpdate};
+ghost use Rattle.view_tests.specs.Asks.{AreGoodLayers};
 
 use crate::asks::{local_layer, no_layer, one_layer, snapshot, two_layers};
 use channel_map::{ChannelMap, Local, read_local, read_map};
-use layer::{Bound, Constraint, Created, ENTRIES_MAX, Layer, Snapshot, Update};
+use layer::{Asked, Bound, Constraint, Created, ENTRIES_MAX, Layer, Snapshot, Update};
 use plan_base::{Dir, Items, NodeId, Reservation};
 use std::alloc::Global;
 use view_build::{View, ViewDir, ViewFault, build};
@@ -56,8 +57,9 @@ fn has_bounds(view: &View, min: u64, max: u64) -> bool {
     }
 }
 
-fn one_channel(alloc: Global) -> Option<ChannelMap> {
-    read_map(alloc, ONE_CHANNEL.as_bytes()).ok()
+fn over_one_channel(alloc: Global, snapshot: &Snapshot) -> Option<View> {
+    let map = read_map(alloc, ONE_CHANNEL.as_bytes()).ok()?;
+    build(alloc, snapshot, &map, &Local::empty(alloc)).ok()
 }
 
 fn no_update(dir: Dir) -> Update
@@ -139,7 +141,7 @@ fn bounds(alloc: Global, reservations: Items<Reservation>) -> Option<View>
         layers(alloc, bounded(alloc)?)?,
         reservations,
     )?;
-    build(alloc, &snapshot, &one_channel(alloc)?, &Local::empty(alloc)).ok()
+    over_one_channel(alloc, &snapshot)
 }
 
 #[test]
@@ -196,8 +198,7 @@ fn has_fees(alloc: Global, first: Update, second: Update, base: u32, ppm: u32) -
 {
     let layers = pair(alloc, layer_with(alloc, first)?, layer_with(alloc, second)?)?;
     let snapshot = snapshot(A, D, two_layers(alloc)?, layers, Items::new(alloc))?;
-    let view = build(alloc, &snapshot, &one_channel(alloc)?, &Local::empty(alloc)).ok()?;
-    let direction = only(&view)?;
+    let direction = only(&over_one_channel(alloc, &snapshot)?)?;
     Some(direction.base == base && direction.ppm == ppm)
 }
 
@@ -225,22 +226,19 @@ fn is_source_unknown(view: &Result<View, ViewFault>) -> bool {
     matches!(view, Err(ViewFault::SourceUnknown))
 }
 
+// The view over the payer's own channels alone, for an ask of these layers.
+fn over_own(alloc: Global, local: &Local, asked: Items<Asked>) -> Option<Result<View, ViewFault>>
+    requires { AreGoodLayers 0 asked }
+{
+    let snapshot = snapshot(A, D, asked, Vec::new(alloc), Items::new(alloc))?;
+    Some(build(alloc, &snapshot, &ChannelMap::empty(alloc), local))
+}
+
 fn own_channels(alloc: Global) -> Option<bool> {
-    let map = ChannelMap::empty(alloc);
     let local = read_local(alloc, OWN_CHANNEL.as_bytes()).ok()?;
-    let without = snapshot(A, D, no_layer(alloc), Vec::new(alloc), Items::new(alloc))?;
-    let with = snapshot(
-        A,
-        D,
-        local_layer(alloc)?,
-        Vec::new(alloc),
-        Items::new(alloc),
-    )?;
-    let view = build(alloc, &with, &map, &local).ok()?;
-    Some(
-        is_source_unknown(&build(alloc, &without, &map, &local))
-            && has_bounds(&view, 300_000, 300_000),
-    )
+    let is_unknown = is_source_unknown(&over_own(alloc, &local, no_layer(alloc))?);
+    let view = over_own(alloc, &local, local_layer(alloc)?)?.ok()?;
+    Some(is_unknown && has_bounds(&view, 300_000, 300_000))
 }
 
 fn created(alloc: Global) -> Option<Layer> {

@@ -13,8 +13,6 @@ mod node;
 mod payment;
 mod sink;
 mod summary;
-#[cfg(test)]
-mod tests;
 mod totals;
 
 pub use ask::ask_lines;

@@ -1,5 +1,0 @@
-use Rattle.std.proofs.Common.{◌≡◌}
-use Rattle.turn_desk.proofs.tests.no_more_passes_than_there_are_numbers.Given as goal
-
-abbrev pub invariant-loop : goal.invariant-loop
-invariant-loop g l = l.first.0 ≡ l.initial.first.0
